@@ -1,0 +1,16 @@
+// One auction from bids to dues: the worst charge, the cut at the seal, the price, the awards.
+mod awards;
+mod bids;
+mod charges;
+mod prices;
+mod products;
+mod shares;
+mod sheets;
+
+pub use awards::Outcome;
+pub use awards::award;
+pub use awards::worked_by_hand;
+pub use bids::Bid;
+pub use prices::marginal_price;
+pub use products::Product;
+pub use sheets::Sheet;

@@ -1,0 +1,1 @@
+// Records in an order of their own.
