@@ -43,7 +43,7 @@ impl Demand {
     }
 
     // What the participant gets: all that it asks for above the price, and its share at it.
-    pub fn granted(self, sharing: Sharing) -> u64
+    pub(crate) fn granted(self, sharing: Sharing) -> u64
         ensures { λ r. ⌜ r ≡ granted-mw sharing self ⌝ }
     {
         let at = u64::from(self.at);
@@ -56,7 +56,7 @@ impl Demand {
 }
 
 // What each participant asks for above the price and at it.
-pub fn demands(sheets: &[Sheet; PARTICIPANTS], price: u32) -> [Demand; PARTICIPANTS]
+pub(crate) fn demands(sheets: &[Sheet; PARTICIPANTS], price: u32) -> [Demand; PARTICIPANTS]
     ensures { λ r. ⌜ r ≡ map (demand-of price) (kept-lists (now (sheets .entry))) ⌝ }
 {
     let mut all = [Demand { above: 0, at: 0 }; PARTICIPANTS];
@@ -67,7 +67,7 @@ pub fn demands(sheets: &[Sheet; PARTICIPANTS], price: u32) -> [Demand; PARTICIPA
 }
 
 // The MW that all ask for above the price.
-pub fn total_above(demands: &[Demand; PARTICIPANTS]) -> u64
+pub(crate) fn total_above(demands: &[Demand; PARTICIPANTS]) -> u64
     ensures { λ r. ⌜ r ≡ sum-of above-of (now (demands .entry)) ⌝ }
 {
     let mut sum = 0;
@@ -119,7 +119,7 @@ fn share_level(demands: &[Demand; PARTICIPANTS], remaining: u64) -> u64
 
 impl Sharing {
     // Shares what remains among the bids at the price.
-    pub fn of(demands: &[Demand; PARTICIPANTS], remaining: u64) -> Sharing
+    pub(crate) fn of(demands: &[Demand; PARTICIPANTS], remaining: u64) -> Sharing
         ensures { λ r. ⌜ r ≡ sharing-of remaining (map at-of (now (demands .entry))) ⌝ }
     {
         if total_at(demands) <= remaining {
