@@ -1,0 +1,4 @@
+pub mod Behind
+pub mod Moves
+pub mod Orders
+pub mod Spending

@@ -1,0 +1,51 @@
+// A sum spent along records: the first is emptied, then the next.
+ghost use mathlib.Core.Path.{_≡_};
+ghost use Prim.Native.Nat.{ℕ, _-_, _≤_};
+ghost use lib.ListN.{length, take};
+ghost use Rattle.roll.specs.Rolls.{laid};
+ghost use Rattle.roll.specs.Spending.{Emptied, spent, total};
+use super::places::close_up;
+use super::record::Spendable;
+
+// What a sum would leave over along the records.
+pub fn left_over<T: Spendable>(records: &[T], sum: u64) -> u64
+    ensures { λ r. ⌜ r ≡ sum - total amount (now (records .entry)) ⌝ }
+{
+    let mut left = sum;
+    for x in records {
+        left = left.saturating_sub(x.amount_of());
+    }
+    left
+}
+
+// How many records a sum empties, and what is left of it then.
+fn emptied<T: Spendable>(records: &[T], sum: u64) -> (usize, u64)
+    ensures { λ r. ⌜ Emptied amount lowered sum (now (records .entry)) (r .0) (r .1) ⌝ }
+{
+    let mut left = sum;
+    for (i, x) in records.iter().enumerate() {
+        let amount = x.amount_of();
+        if left < amount {
+            return (i, left);
+        }
+        left -= amount;
+    }
+    (records.len(), left)
+}
+
+// Spends a sum along the first `n` places: how many still hold records, and what is left of the sum.
+pub fn spend_in<T: Spendable>(places: &mut [T], n: usize, sum: u64) -> (usize, u64)
+    requires { ⌜ n ≤ length (now places) ⌝ }
+    ensures after { λ _. ⌜ now (places .exit) ≡ laid (spent amount lowered sum (take n (now (places .entry)))) (now (places .entry)) ⌝ }
+    ensures len { λ r. ⌜ r .0 ≡ length (spent amount lowered sum (take n (now (places .entry)))) ⌝ }
+    ensures left { λ r. ⌜ r .1 ≡ sum - total amount (take n (now (places .entry))) ⌝ }
+{
+    let (gone, left) = emptied(&places[0..n], sum);
+    close_up(places, n, gone);
+    if gone < n {
+        let x = places[0];
+        places[0] = x.lower(x.amount_of() - left);
+        return (n - gone, 0);
+    }
+    (0, left)
+}
