@@ -23,7 +23,7 @@ returns-then-gone-n g c =
     let h : Emptied (t .amount) (t .lowered) (c .args .sum) (take (c .args .n) (c .args .places .now)) (r .0) (r .1) = rw sub-zero at (c .emptied-gone .ensures) in
     let low : c .lower .result ≡ t .lowered (t .amount x - r .1) x = cc in
     let done = part-spent (t .amount) (t .lowered) (c .args .sum) (c .args .n) (c .args .places .now) _ (r .0) (r .1) (c .pre) h (c .close-up .ensures) _ _ (c .if-gone-n .taken) (c .index-places-0 .is) low in
-    record { after = done .0; len = done .1; left = done .2 }
+    record { after = done .0; len = omega arith; left = omega arith }
 
 pub returns : need.returns
 returns g c =
@@ -31,4 +31,4 @@ returns g c =
     let r = c .emptied-gone .result in
     let h : Emptied (t .amount) (t .lowered) (c .args .sum) (take (c .args .n) (c .args .places .now)) (r .0) (r .1) = rw sub-zero at (c .emptied-gone .ensures) in
     let done = all-spent (t .amount) (t .lowered) (c .args .sum) (c .args .n) (c .args .places .now) _ (r .0) (r .1) (c .pre) h (c .close-up .ensures) (c .if-gone-n .left) in
-    record { after = done .0; len = done .1; left = done .2 }
+    record { after = done .0; len = omega arith; left = omega arith }
