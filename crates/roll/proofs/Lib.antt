@@ -1,3 +1,7 @@
-pub mod Sums
+pub mod Behind
 pub mod Maxima
+pub mod Moves
+pub mod Orders
+pub mod Spending
 pub mod Steps
+pub mod Sums

@@ -1,1 +1,4 @@
 pub mod Sums
+pub mod Rolls
+pub mod Spending
+pub mod Views
