@@ -4,6 +4,7 @@ use mathlib.Core.List.{List}
 use Prim.Native.Nat.{ℕ, _≤_, _<_}
 use lib.Dec.{leb}
 use lib.ListN.{length, take, drop}
+use Rattle.roll.specs.Rows.{each-with}
 use Rattle.roll.specs.Sums.{largest-to}
 use Rattle.auction.specs.declared.bids.Bid.{Bid}
 use Rattle.auction.specs.declared.products.Product.{Product}
@@ -31,6 +32,10 @@ sealed limit d s = record {
   held = worst-charge d (kept-front limit d (bids-of s));
   limit = limit;
 }
+
+-- the sheets of all participants after the seal, each at its own limit
+abbrev pub all-sealed : Product → List ℕ → List Sheet → List Sheet
+all-sealed d limits sheets = each-with (λ limit. sealed limit d) limits sheets
 
 -- a front of n bids is within the limit, and every longer one is not
 pub record Longest-front (limit : ℕ) (d : Product) (bs : List Bid) (n : ℕ) : Type 0 where

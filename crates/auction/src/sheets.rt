@@ -2,15 +2,20 @@
 ghost use mathlib.Core.Path.{_≡_};
 ghost use Prim.Native.Nat.{_≤_};
 ghost use lib.ListN.{length};
-ghost use Rattle.auction.specs.Bids.{bids-of, kept-of};
+ghost use mathlib.Core.Bool.{cond};
+ghost use Rattle.roll.specs.Rolls.{Ordered};
+ghost use Rattle.auction.specs.Bids.{bids-of, kept-of, dearer, has-place, with-bid, no-bids};
 ghost use Rattle.auction.specs.Charge.{worst-charge};
-ghost use Rattle.auction.specs.Seal.{sealed, Longest-front};
+ghost use Rattle.auction.specs.Seal.{sealed, all-sealed, Longest-front};
 ghost use Rattle.auction.specs.Rivals.{Pays-at-most, Made-to-pay, Rightly-left-out};
 use super::bids::Bid;
+use super::bids::BidRanked;
 use super::bids::MOST_BIDS;
+use super::bids::PARTICIPANTS;
 use super::charges::kept_count;
 use super::charges::worst_charge;
 use super::products::Product;
+use roll::Roll;
 
 // The first `count` places hold bids, in their order; the seal kept the first `kept` of these at the credit limit
 // that it found, and holds a sum for them.
@@ -24,6 +29,34 @@ pub struct Sheet {
 }
 
 impl Sheet {
+    // A sheet without bids.
+    pub fn empty() -> Sheet
+        ensures { λ r. ⌜ r ≡ no-bids ⌝ }
+    {
+        Sheet {
+            bids: [Bid { price: 0, mw: 0 }; MOST_BIDS],
+            count: 0,
+            kept: 0,
+            held: 0,
+            limit: 0,
+        }
+    }
+
+    // Puts a bid behind those level with it; false where four stand there already.
+    pub fn place(&mut self, bid: Bid) -> bool
+        ensures value { λ r. ⌜ r ≡ has-place (now (self .entry)) ⌝ }
+        ensures after { λ r. ⌜ now (self .exit) ≡ cond r (with-bid bid (now (self .entry))) (now (self .entry)) ⌝ }
+        ensures order { λ _. ⌜ (Ordered dearer (bids-of (now (self .entry))) → Ordered dearer (bids-of (now (self .exit)))) ⌝ }
+    {
+        if self.count >= MOST_BIDS {
+            return false;
+        }
+        let mut roll = Roll::over(&mut self.bids, self.count);
+        let placed = roll.insert(bid);
+        self.count = roll.len();
+        placed
+    }
+
     // The bids that were placed.
     pub fn placed(&self) -> &[Bid]
         ensures value { λ r. ⌜ now r ≡ bids-of (now (self .entry)) ⌝ }
@@ -69,5 +102,14 @@ impl Sheet {
         self.kept = kept_count(self.placed(), product, limit);
         self.held = worst_charge(self.kept_bids(), product);
         self.limit = limit;
+    }
+}
+
+// Seals the sheet of every participant at its own credit limit.
+pub fn seal_all(sheets: &mut [Sheet; PARTICIPANTS], product: Product, limits: &[u64; PARTICIPANTS])
+    ensures { λ _. ⌜ now (sheets .exit) ≡ all-sealed product (now (limits .entry)) (now (sheets .entry)) ⌝ }
+{
+    for i in 0..PARTICIPANTS {
+        sheets[i].seal(product, limits[i]);
     }
 }

@@ -2,6 +2,7 @@ pub mod Behind
 pub mod Maxima
 pub mod Moves
 pub mod Orders
+pub mod Rows
 pub mod Spending
 pub mod Steps
 pub mod Sums
