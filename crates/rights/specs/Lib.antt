@@ -1,0 +1,4 @@
+pub mod Spans
+pub mod Holdings
+pub mod Returns
+pub mod Cuts
