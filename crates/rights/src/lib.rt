@@ -1,4 +1,6 @@
 // Rights to transmit, by hour, auction and participant.
 mod hours;
 
+pub use hours::AUCTIONS;
+pub use hours::HOURS;
 pub use hours::Hour;

@@ -53,3 +53,9 @@ pub sum-alone : {X : Type 0} (f : X → ℕ) (o : X) → f o ≡ 0 → (n k : �
 sum-alone f o z zero k x h = absurd (omega arith)
 sum-alone f o z (suc n) zero x h = omega (arith, sum-none f o z n)
 sum-alone f o z (suc n) (suc k) x h = omega (arith, z, sum-alone f o z n k x (le-of-suc-le-suc h))
+
+-- a record put in the place of another: the sum grows by at most what the number grows there
+pub sum-set-le : {X : Type 0} (f : X → ℕ) (xs : List X) (i : ℕ) (y d : X) (b : ℕ) → f y ≤ f (getD xs i d) + b → sum-of f (set xs i y) ≤ sum-of f xs + b
+sum-set-le f [] i y d b h = omega arith
+sum-set-le f (x ∷ xs) zero y d b h = omega arith
+sum-set-le f (x ∷ xs) (suc i) y d b h = omega (arith, sum-set-le f xs i y d b h)

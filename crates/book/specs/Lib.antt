@@ -1,0 +1,7 @@
+pub mod Refusals
+pub mod Tables
+pub mod Moments
+pub mod Calls
+pub mod Steps
+pub mod Questions
+pub mod Law

@@ -1,0 +1,10 @@
+// The book: a ledger over any kind of collateral.
+mod answers;
+mod refusals;
+
+pub use answers::Clearing;
+pub use answers::Cut;
+pub use answers::Netting;
+pub use answers::Receipt;
+pub use refusals::Layer;
+pub use refusals::Refusal;

@@ -1,0 +1,1 @@
+-- What each call does to what a participant owes and has held.

@@ -1,0 +1,6 @@
+pub mod Auctions
+pub mod Ledgers
+pub mod Limits
+pub mod Moves
+pub mod Sound
+pub mod Stages
