@@ -1,4 +1,5 @@
 pub mod Behind
+pub mod Clear
 pub mod Insertions
 pub mod Maxima
 pub mod Moves

@@ -6,8 +6,8 @@ use Prim.Native.Nat.{ℕ, _+_, _-_, _<_, _≤_}
 use native.Mathlib.Omega.{arith}
 use lib.ListN.{length, take, drop, getD, set, length-append, length-drop}
 use borrow.Rule.Slice.PartMut.{putMid}
-use Rattle.std.proofs.shelf.Lists.{append-assoc, drop-all, drop-append-le, drop-at, drop-drop, drop-more, drop-set-lt, getD-append-right, getD-drop, length-push, length-take, set-at, take-append-drop, take-at, take-more, take-more-set, take-set-le, take-take}
-use Rattle.std.proofs.shelf.Parts.{between-is}
+use Rattle.std.proofs.shelf.Lists.{append-assoc, append-nil, drop-all, drop-append-le, drop-at, drop-drop, drop-more, drop-set-lt, getD-append-right, getD-drop, length-push, length-take, set-at, take-append-drop, take-at, take-more, take-more-set, take-rest, take-set-le, take-take}
+use Rattle.std.proofs.shelf.Parts.{between-is, drop-append-drop}
 use Rattle.roll.specs.Rolls.{behind, inserted, laid}
 use Rattle.roll.proofs.Behind.{behind-within}
 
@@ -88,3 +88,21 @@ module _ {X : Type 0} (p : List X) (n at : ℕ) (x : X) (low : at ≤ n) (free :
       let i : inserted first x xs ≡ take at p ++ x ∷ drop at xs = ap (λ k. take k xs ++ x ∷ drop k xs) (sym f) ∙ ap (λ q. q ++ x ∷ drop at xs) (take-take at n p low) in
       let l : length (inserted first x xs) ≡ n + 1 = omega (arith, length-inserted first x xs, length-take n p) in
       put-in ys e ∙ ap (λ q. q ++ drop (n + 1) p) (sym i) ∙ ap (λ k. inserted first x xs ++ drop k p) (sym l)
+
+-- a list laid over another that is no longer
+pub laid-again : {X : Type 0} (xs ys p : List X) → length xs ≤ length ys → laid ys (laid xs p) ≡ laid ys p
+laid-again xs ys p l = ap (λ zs. ys ++ zs) (drop-append-drop (length xs) p xs (length ys) l refl)
+
+-- a list laid behind the first g of n places
+pub laid-behind : {X : Type 0} (p zs : List X) (g n : ℕ) → g ≤ n → n ≤ length p → take g p ++ laid zs (drop g p) ≡ laid (take g (take n p) ++ zs) p
+laid-behind p zs g n low l =
+    let e : take g (take n p) ≡ take g p = take-take g n p low in
+    let m : length (take g (take n p) ++ zs) ≡ g + length zs = omega (arith, length-append (take g (take n p)) zs, length-take g (take n p), length-take n p) in
+    ap (λ q. take g p ++ (zs ++ q)) (drop-drop (length zs) g p) ∙ sym (append-assoc (take g p) zs (drop (g + length zs) p)) ∙ ap (λ q. (q ++ zs) ++ drop (g + length zs) p) (sym e) ∙ ap (λ k. (take g (take n p) ++ zs) ++ drop k p) (sym m)
+
+-- a list laid over what was lent from the place g on
+pub put-behind : {X : Type 0} (p ys zs : List X) (g n : ℕ) → g ≤ n → n ≤ length p → ys ≡ laid zs (take (length p - g) (drop g p)) → putMid g (length p - g) p ys ≡ laid (take g (take n p) ++ zs) p
+put-behind p ys zs g n low l e =
+    let m : length p ≤ g + (length p - g) = omega arith in
+    let rest : drop (length p - g) (drop g p) ≡ [] = drop-drop (length p - g) g p ∙ drop-all (g + (length p - g)) p m in
+    ap (λ q. take g p ++ (ys ++ q)) rest ∙ ap (λ q. take g p ++ q) (append-nil ys ∙ e ∙ ap (λ q. laid zs q) (take-rest p g)) ∙ laid-behind p zs g n low l

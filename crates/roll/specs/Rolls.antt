@@ -2,6 +2,7 @@
 --   first x y    x comes first or is level with y
 --   Ordered      each record comes first or is level with every one behind it
 --   behind       the place behind the last record that meets a test
+--   clear-of     the records that stand behind it
 --   inserted     a list with a new record, behind all that come first or are level with it
 --   Arrived      level records stand in the order of their arrival
 --   laid         a list laid over the front of a row of places
@@ -25,6 +26,9 @@ Ordered first (x ∷ xs) = Heads first x xs × Ordered first xs
 abbrev pub behind : {X : Type 0} → (X → Bool) → List X → ℕ
 behind test [] = 0
 behind test (x ∷ xs) = cond (ltb 0 (behind test xs) || test x) (1 + behind test xs) 0
+
+abbrev pub clear-of : {X : Type 0} → (X → Bool) → List X → List X
+clear-of test xs = drop (behind test xs) xs
 
 abbrev pub inserted : {X : Type 0} → (X → X → Bool) → X → List X → List X
 inserted first x ys = let place = behind (λ y. first y x) ys in take place ys ++ x ∷ drop place ys

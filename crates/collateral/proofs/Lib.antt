@@ -1,0 +1,2 @@
+mod Covers
+mod Folders

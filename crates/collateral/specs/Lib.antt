@@ -1,0 +1,5 @@
+pub mod Cash
+pub mod Causes
+pub mod Cover
+pub mod Guarantees
+pub mod Joined
