@@ -1,2 +1,4 @@
 pub mod Invoices
 pub mod Settling
+pub mod Bounds
+pub mod Worked

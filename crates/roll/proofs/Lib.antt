@@ -8,3 +8,4 @@ pub mod Rows
 pub mod Spending
 pub mod Steps
 pub mod Sums
+pub mod Totals
