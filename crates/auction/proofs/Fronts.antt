@@ -57,7 +57,7 @@ count-is limit d bs n le fits passes = go (cases-order n (kept-count limit d bs)
         absurd (omega (arith, longest-front limit d bs .fits))
 
 -- the first bid left out is the next one of the roll
-next-out : (n : ℕ) (bs : List Bid) (b : Bid) (others : List Bid) → drop n bs ≡ b ∷ others → (n < length bs) × (take (suc n) bs ≡ take n bs ++ b ∷ [])
+pub next-out : (n : ℕ) (bs : List Bid) (b : Bid) (others : List Bid) → drop n bs ≡ b ∷ others → (n < length bs) × (take (suc n) bs ≡ take n bs ++ b ∷ [])
 next-out zero [] b others e = absurd (let z : _≡_ {A = ℕ} 0 1 = cc in omega arith)
 next-out zero (x ∷ xs) b others e = (omega arith, (let h : x ≡ b = cc in cc))
 next-out (suc n) [] b others e = absurd (let z : _≡_ {A = ℕ} 0 1 = cc in omega arith)

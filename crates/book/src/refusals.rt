@@ -2,7 +2,7 @@
 ghost use mathlib.Core.Path.{_≡_};
 ghost use Rattle.book.specs.declared.refusals.Refusal.the-variants.{Collateral};
 ghost use Rattle.book.specs.Refusals.{cause-of, layer-of, number-of};
-use collateral::Cause;
+use collateral::kind::Cause;
 
 // Which part of the system refuses.
 #[derive(Clone, Copy)]

@@ -1,3 +1,4 @@
 pub mod Sheets
 pub mod Kept
 pub mod Loads
+pub mod Sounds

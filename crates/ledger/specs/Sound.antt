@@ -41,3 +41,11 @@ pub record Sound-auctions (l : Ledger) : Type 0 where
   pub rows : length (l .auctions) ≡ 8
   pub some : (a : ℕ) → a < l .opened → 1 ≤ getD (l .auctions) a no-auction .capacity
   pub each : (a : ℕ) → a < 8 → Sound-auction (getD (l .auctions) a no-auction)
+
+-- twelve accounts
+pub record Sound-accounts (l : Ledger) : Type 0 where
+  pub rows : length (l .accounts) ≡ 12
+
+pub record Sound (l : Ledger) : Type 0 where
+  pub auctions : Sound-auctions l
+  pub accounts : Sound-accounts l

@@ -1,0 +1,4 @@
+pub mod Granted
+pub mod Soundness
+pub mod Coverage
+pub mod Promises
