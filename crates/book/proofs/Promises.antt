@@ -20,20 +20,22 @@ use Rattle.auction.proofs.Rivals.{worst-exact}
 use Rattle.auction.proofs.Settled.{worst-enough}
 use Rattle.ledger.specs.Ledgers.{auction-at, sheet-at}
 use Rattle.ledger.specs.Limits.{held-sums, overdue-by, owes}
+use Rattle.ledger.specs.Moves.{account-paid}
 use Rattle.ledger.specs.Sound.{Sound, Sound-auction, Staged}
 use Rattle.ledger.specs.declared.auctions.Auction.{Auction}
 use Rattle.ledger.specs.declared.auctions.Stage.the-variants.{Sealed}
+use Rattle.ledger.specs.declared.ledgers.Ledger.{Ledger}
 use Rattle.ledger.proofs.Kept.{at-number}
 use Rattle.ledger.proofs.Loads.{overdue-owed}
 use Rattle.ledger.proofs.Sheets.{within-take}
 use Rattle.book.specs.declared.refusals.Refusal.{Refusal}
-use Rattle.book.specs.Calls.{draw-overdue}
-use Rattle.book.specs.Law.{Covered, Covered-days, CreditLaw, Credit-law, Held-exactly, History, Is-sealed, Left-out-rightly, Participant, Stays-covered}
+use Rattle.book.specs.Calls.{Call, Reply, add-collateral, withdraw, open-auction, place-bid, seal-auction, award-auction, cancel-auction, transfer-rights, return-rights, curtail-rights, send-invoice, pay-invoices, draw-overdue, pay-balance, move-day}
+use Rattle.book.specs.Law.{AlwaysSound, Covered, Covered-days, CreditLaw, Credit-law, Held-exactly, History, Is-sealed, Left-out-rightly, Participant, RefusalsChangeNothing, Stays-covered}
 use Rattle.book.specs.Moments.{Moment, cover-today}
-use Rattle.book.specs.Steps.{Step, draw-table, drawn}
-use Rattle.book.specs.Tables.{answers, passes}
+use Rattle.book.specs.Steps.{Leaves, Step, draw-table, drawn}
+use Rattle.book.specs.Tables.{Row, answers, is-granted, passes}
 use Rattle.book.proofs.Coverage.{covered}
-use Rattle.book.proofs.Granted.{granted-value}
+use Rattle.book.proofs.Granted.{granted-passes, granted-value}
 use Rattle.book.proofs.Soundness.{sound}
 
 -- (a)
@@ -86,3 +88,31 @@ credit-law m h p who = record {
   b = λ a there. held-exactly m a p (sound h) there who;
   c = λ a there. left-out-rightly m a p (sound h) there who;
 }
+
+pub always-sound : AlwaysSound
+always-sound m h = sound h
+
+-- a refusal of a call that leaves the collateral alone
+leaves-refused : {A : Type 0} (table : List Row) (value : A) (after : Ledger) (m : Moment) (r : Result A Refusal) (m′ : Moment) → Leaves table value after m r m′ → is-granted r ≡ false → (m′ .ledger ≡ m .ledger) × (m′ .cover ≡ m .cover) × (m′ .verdict ≡ m .verdict)
+leaves-refused table value after m r m′ s e =
+    let f : passes table ≡ false = sym (granted-passes table value) ∙ (ap is-granted (sym (s .answer)) ∙ e) in
+    (s .ledger ∙ ap (λ b. cond b after (m .ledger)) f, s .cover, s .verdict)
+
+pub refusals-change-nothing : RefusalsChangeNothing
+refusals-change-nothing (add-collateral p kind sum last) m r m′ s e = (s .ledger, s .refused e .0, s .refused e .1)
+refusals-change-nothing (withdraw p sum) m r m′ s e = (s .ledger, s .refused e .0, s .refused e .1)
+refusals-change-nothing (open-auction from to first hours capacity) m r m′ s e = leaves-refused _ _ _ m r m′ s e
+refusals-change-nothing (place-bid p a price mw) m r m′ s e = leaves-refused _ _ _ m r m′ s e
+refusals-change-nothing (seal-auction a) m r m′ s e = leaves-refused _ _ _ m r m′ s e
+refusals-change-nothing (award-auction a) m r m′ s e = leaves-refused _ _ _ m r m′ s e
+refusals-change-nothing (cancel-auction a) m r m′ s e = leaves-refused _ _ _ m r m′ s e
+refusals-change-nothing (transfer-rights giver taker a first hours mw) m r m′ s e = leaves-refused _ _ _ m r m′ s e
+refusals-change-nothing (return-rights p out into mw) m r m′ s e = leaves-refused _ _ _ m r m′ s e
+refusals-change-nothing (curtail-rights from to first limits) m r m′ s e = leaves-refused _ _ _ m r m′ s e
+refusals-change-nothing (send-invoice p) m r m′ s e = leaves-refused _ _ _ m r m′ s e
+refusals-change-nothing (pay-invoices p sum) m r m′ s e = leaves-refused _ _ _ m r m′ s e
+refusals-change-nothing (draw-overdue p) m r m′ s e =
+    let f : passes (draw-table p m) ≡ false = sym (granted-passes (draw-table p m) (drawn m p)) ∙ (ap is-granted (sym (s .answer)) ∙ e) in
+    (s .ledger ∙ ap (λ b. cond b (account-paid p (drawn m p) (m .ledger)) (m .ledger)) f, s .refused e .0, s .refused e .1)
+refusals-change-nothing (pay-balance p) m r m′ s e = leaves-refused _ _ _ m r m′ s e
+refusals-change-nothing (move-day day) m r m′ s e = leaves-refused _ _ _ m r m′ s e

@@ -1,5 +1,6 @@
 -- The credit law: what no arrangement of calls can make false.
 use mathlib.Core.Path.{_≡_}
+use mathlib.Core.Bool.{false}
 use mathlib.Core.List.{List, [], _∷_, _++_}
 use Prim.Native.Nat.{ℕ, _+_, _-_, _≤_, _<_}
 use lib.ListN.{drop}
@@ -11,11 +12,13 @@ use Rattle.auction.specs.Rivals.{Stands}
 use Rattle.auction.specs.declared.bids.Bid.{Bid}
 use Rattle.ledger.specs.Ledgers.{auction-at, new-ledger, sheet-at}
 use Rattle.ledger.specs.Limits.{Cover, held-sums, overdue-by, owes}
+use Rattle.ledger.specs.Sound.{Sound}
 use Rattle.ledger.specs.declared.auctions.Stage.the-variants.{Sealed}
 use Rattle.book.specs.declared.refusals.Refusal.{Refusal}
 use Rattle.book.specs.Calls.{Call, Reply, add-collateral, withdraw, open-auction, place-bid, seal-auction, award-auction, cancel-auction, transfer-rights, return-rights, curtail-rights, send-invoice, pay-invoices, draw-overdue, pay-balance, move-day}
 use Rattle.book.specs.Moments.{Moment, Verdict, cover-today}
 use Rattle.book.specs.Steps.{Step}
+use Rattle.book.specs.Tables.{is-granted}
 
 -- what has come of a new book by calls, one after another, over collateral with any cover to begin with
 pub data History : Moment → Type 0 where
@@ -99,3 +102,13 @@ pub record Credit-law (m : Moment) (h : History m) (p : ℕ) : Type 0 where
 -- for every history and every participant
 abbrev pub CreditLaw : Type 0
 CreditLaw = (m : Moment) (h : History m) (p : ℕ) → Participant p → Credit-law m h p
+
+-- every history leaves a sound ledger
+abbrev pub AlwaysSound : Type 0
+AlwaysSound = (m : Moment) → History m → Sound (m .ledger)
+
+-- a refused call changes nothing: neither the ledger nor what the collateral shows
+abbrev pub RefusalsChangeNothing : Type 0
+RefusalsChangeNothing =
+    (k : Call) (m : Moment) (r : Result (Reply k) Refusal) (m′ : Moment) → Step k m r m′ → is-granted r ≡ false →
+    (m′ .ledger ≡ m .ledger) × (m′ .cover ≡ m .cover) × (m′ .verdict ≡ m .verdict)

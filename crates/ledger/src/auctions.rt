@@ -1,7 +1,10 @@
 // An auction, from its opening to its award.
+ghost use mathlib.Core.Path.{_≡_};
+ghost use Rattle.ledger.specs.Auctions.{new-auction};
 use auction::PARTICIPANTS;
 use auction::Product;
 use auction::Sheet;
+use rights::AUCTIONS;
 use rights::Hour;
 
 // From one zone to another: 1 to 2 and 2 to 1 are two directions.
@@ -30,4 +33,23 @@ pub struct Auction {
     pub stage: Stage,
     pub sheets: [Sheet; PARTICIPANTS],
     pub returned: Hour,
+}
+
+impl Auction {
+    // An auction that is just opened: no bids, and nothing returned into it.
+    pub fn new(direction: Direction, first: u8, product: Product, capacity: u16) -> Auction
+        ensures { λ r. ⌜ r ≡ new-auction direction first product capacity ⌝ }
+    {
+        Auction {
+            direction,
+            first,
+            product,
+            capacity,
+            stage: Stage::Open,
+            sheets: [Sheet::empty(); PARTICIPANTS],
+            returned: Hour {
+                rows: [[0; PARTICIPANTS]; AUCTIONS],
+            },
+        }
+    }
 }
