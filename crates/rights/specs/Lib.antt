@@ -2,3 +2,6 @@ pub mod Spans
 pub mod Holdings
 pub mod Returns
 pub mod Cuts
+pub mod Limited
+pub mod Bounds
+pub mod Worked

@@ -1,6 +1,7 @@
 pub mod Behind
 pub mod Clear
 pub mod Insertions
+pub mod InPlace
 pub mod Maxima
 pub mod Moves
 pub mod Orders

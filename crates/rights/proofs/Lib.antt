@@ -1,0 +1,6 @@
+pub mod Spans
+pub mod Bounds
+pub mod Pairs
+pub mod Lost
+pub mod Tight
+pub mod Curtailments
