@@ -2,6 +2,7 @@
 ghost use mathlib.Core.Path.{_≡_};
 ghost use lib.Dec.{eqb};
 ghost use Rattle.collateral.specs.Guarantees.{guarantees-added, guarantees-cover, guarantees-taken, guarantees-verdict, no-guarantees};
+ghost use Rattle.collateral.specs.Runs.{Runs-count};
 use super::bounds::LAST_DAY;
 use super::bounds::MOST;
 use super::bounds::is_in_range;
@@ -19,8 +20,10 @@ pub struct Guarantees {
 }
 
 impl Guarantees {
+    // None yet; what becomes of them counts up to each one's last day.
     pub fn new() -> Guarantees
-        ensures { λ r. ⌜ r ≡ no-guarantees ⌝ }
+        ensures value { λ r. ⌜ r ≡ no-guarantees ⌝ }
+        ensures runs { λ _. ⌜ Runs-count ⌝ }
     {
         Guarantees {
             folders: [Folder::empty(); 12],
