@@ -25,8 +25,12 @@ impl Guarantees {
         ensures value { λ r. ⌜ r ≡ no-guarantees ⌝ }
         ensures runs { λ _. ⌜ Runs-count ⌝ }
     {
+        let empty = Folder {
+            places: [Guarantee { last: 0, sum: 0 }; 4],
+            count: 0,
+        };
         Guarantees {
-            folders: [Folder::empty(); 12],
+            folders: [empty; 12],
         }
     }
 }
