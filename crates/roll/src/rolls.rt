@@ -11,6 +11,7 @@ pub struct Roll<'a, T> {
 }
 
 impl<'a, T> Roll<'a, T> {
+    // A roll in lent places, of which the first `len` hold records.
     pub fn over(places: &'a mut [T], len: usize) -> Roll<'a, T>
         ensures len { λ r. ⌜ r .len ≡ len ⌝ }
         ensures row { λ r. ⌜ now (r .places) ≡ now (places .entry) ⌝ }

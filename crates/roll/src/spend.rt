@@ -25,15 +25,15 @@ pub fn left_over<T: Spendable>(records: &[T], sum: u64) -> u64
 fn emptied<T: Spendable>(records: &[T], sum: u64) -> (usize, u64)
     ensures { λ r. ⌜ Emptied amount lowered sum (now (records .entry)) (r .0) (r .1) ⌝ }
 {
-    let mut left = sum;
+    let mut rest = sum;
     for (i, x) in records.iter().enumerate() {
         let amount = x.amount_of();
-        if left < amount {
-            return (i, left);
+        if rest < amount {
+            return (i, rest);
         }
-        left -= amount;
+        rest -= amount;
     }
-    (records.len(), left)
+    (records.len(), rest)
 }
 
 // Spends a sum along the first `n` places: how many still hold records, and what is left of the sum.
