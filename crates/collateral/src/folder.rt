@@ -47,7 +47,7 @@ pub impl Spendable for Guarantee as GuaranteeSpendable {
 
 #[derive(Clone, Copy)]
 pub struct Folder {
-    pub(crate) places: [Guarantee; 4],
+    pub(crate) places: [Guarantee; PLACES],
     pub(crate) count: usize,
 }
 

@@ -5,6 +5,8 @@ ghost use Rattle.collateral.specs.Guarantees.{guarantees-added, guarantees-cov
 ghost use Rattle.collateral.specs.Runs.{Runs-count};
 use super::bounds::LAST_DAY;
 use super::bounds::MOST;
+use super::bounds::PARTICIPANTS;
+use super::bounds::PLACES;
 use super::bounds::is_in_range;
 use super::bounds::is_participant;
 use super::folder::Folder;
@@ -16,7 +18,7 @@ const GUARANTEE: u8 = 2;
 
 #[derive(Clone, Copy)]
 pub struct Guarantees {
-    folders: [Folder; 12],
+    folders: [Folder; PARTICIPANTS],
 }
 
 impl Guarantees {
@@ -26,11 +28,11 @@ impl Guarantees {
         ensures runs { λ _. ⌜ Runs-count ⌝ }
     {
         let empty = Folder {
-            places: [Guarantee { last: 0, sum: 0 }; 4],
+            places: [Guarantee { last: 0, sum: 0 }; PLACES],
             count: 0,
         };
         Guarantees {
-            folders: [empty; 12],
+            folders: [empty; PARTICIPANTS],
         }
     }
 }
