@@ -26,8 +26,11 @@ past-nested d e = elim (cases-lt e d) [ inl l ↦ inr (past-later e d (omega ari
 
 -- one folder
 module _ (f : Folder) where
+  pub held-with : (gs : List Guarantee) → held-in (with-held gs f) ≡ gs
+  held-with gs = take-at gs (drop (length gs) (f .places)) (length gs) refl
+
   cover-held : (gs : List Guarantee) (d : ℕ) → folder-cover (with-held gs f) d ≡ total sum-of (valid d gs)
-  cover-held gs d = ap (λ hs. total sum-of (valid d hs)) (take-at gs (drop (length gs) (f .places)) (length gs) refl)
+  cover-held gs d = ap (λ hs. total sum-of (valid d hs)) (held-with gs)
 
   pub cover-falls : (d e : ℕ) → d ≤ e → folder-cover f e ≤ folder-cover f d
   cover-falls d e l = clear-falls sum-of (past-on d) (past-on e) (past-later d e l) (held-in f)

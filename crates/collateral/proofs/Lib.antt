@@ -1,2 +1,3 @@
 mod Covers
 mod Folders
+mod Runs

@@ -62,6 +62,13 @@ has-free today f = ltb (length (valid today (held-in f))) 4
 abbrev pub with-held : List Guarantee → Folder → Folder
 with-held gs f = record { places = laid gs (f .places); count = length gs }
 
+-- a folder after a take, and after a new one is put in
+abbrev pub paid-from : ℕ → ℕ → Folder → Folder
+paid-from day sum f = with-held (used day sum (held-in f)) f
+
+abbrev pub filed : ℕ → Guarantee → Folder → Folder
+filed today g f = with-held (stored today g (held-in f)) f
+
 -- of each participant its folder
 abbrev pub no-guarantees : Guarantees
 no-guarantees = record { folders = replicate 12 no-folder }
@@ -78,7 +85,7 @@ guarantees-cover x p day = cond (in-range p day) (folder-cover (folder-of x p) d
 abbrev pub guarantees-taken : Guarantees → ℕ → ℕ → ℕ → Guarantees
 guarantees-taken x p day sum =
     let f = folder-of x p in
-    cond (in-range p day && leb sum (folder-cover f day)) (with-folder x p (with-held (used day sum (held-in f)) f)) x
+    cond (in-range p day && leb sum (folder-cover f day)) (with-folder x p (paid-from day sum f)) x
 
 -- a sum from 1 to 10^12, a last day from today to 9,998, and a free place
 abbrev pub guarantees-verdict : Guarantees → ℕ → ℕ → ℕ → ℕ → ℕ → Result (Unit {0}) Cause
@@ -95,4 +102,4 @@ abbrev pub guarantees-added : Guarantees → ℕ → ℕ → ℕ → ℕ → ℕ
 guarantees-added x p kind sum last today =
     let f = folder-of x p in
     let g : Guarantee = record { last = last; sum = sum } in
-    cond (granted (guarantees-verdict x p kind sum last today)) (with-folder x p (with-held (stored today g (held-in f)) f)) x
+    cond (granted (guarantees-verdict x p kind sum last today)) (with-folder x p (filed today g f)) x

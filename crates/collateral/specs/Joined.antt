@@ -12,19 +12,32 @@ use Rattle.collateral.specs.declared.kind.Cause.{Cause}
 use Rattle.collateral.specs.declared.kind.Cause.the-variants.{Stranger, UnknownKind}
 use Rattle.collateral.specs.Cover.{participant}
 
--- whether each knows the number, the participant, and how each would judge
-abbrev pub joined-verdict : Bool → Bool → ℕ → Result (Unit {0}) Cause → Result (Unit {0}) Cause → Result (Unit {0}) Cause
-joined-verdict knows-1 knows-2 p by-1 by-2 = cond knows-1 by-1 (cond knows-2 by-2 (cond (participant p) (Err UnknownKind) (Err Stranger)))
+-- what a kind says of itself: its cover, the numbers it knows, how it judges an add, and what a take and an add leave
+abbrev Covers : Type 0 → Type 0
+Covers K = K → ℕ → ℕ → ℕ
 
--- the covers of both, and what a take leaves of each
-abbrev pub joined-taken : {F S : Type 0} → (F → ℕ → ℕ → ℕ) → (S → ℕ → ℕ → ℕ) → (F → ℕ → ℕ → ℕ → F) → (S → ℕ → ℕ → ℕ → S) → Joined F S → ℕ → ℕ → ℕ → Joined F S
-joined-taken cover-1 cover-2 taken-1 taken-2 j p day sum =
+abbrev Judges : Type 0 → Type 0
+Judges K = K → ℕ → ℕ → ℕ → ℕ → ℕ → Result (Unit {0}) Cause
+
+abbrev Takes : Type 0 → Type 0
+Takes K = K → ℕ → ℕ → ℕ → K
+
+abbrev Adds : Type 0 → Type 0
+Adds K = K → ℕ → ℕ → ℕ → ℕ → ℕ → K
+
+abbrev pub joined-verdict : {F S : Type 0} → (ℕ → Bool) → (ℕ → Bool) → Judges F → Judges S → Judges (Joined F S)
+joined-verdict known-1 known-2 judge-1 judge-2 j p kind sum last today =
+    cond (known-1 kind) (judge-1 (j .first) p kind sum last today)
+    (cond (known-2 kind) (judge-2 (j .second) p kind sum last today)
+    (cond (participant p) (Err UnknownKind) (Err Stranger)))
+
+abbrev pub joined-taken : {F S : Type 0} → Covers F → Covers S → Takes F → Takes S → Takes (Joined F S)
+joined-taken cover-1 cover-2 take-1 take-2 j p day sum =
     let part = min sum (cover-1 (j .first) p day) in
     cond (leb sum (cover-1 (j .first) p day + cover-2 (j .second) p day))
-    (record { first = taken-1 (j .first) p day part; second = taken-2 (j .second) p day (sum - part) }) j
+    (record { first = take-1 (j .first) p day part; second = take-2 (j .second) p day (sum - part) }) j
 
--- which numbers each knows, and what an add leaves of each
-abbrev pub joined-added : {F S : Type 0} → (ℕ → Bool) → (ℕ → Bool) → (F → ℕ → ℕ → ℕ → ℕ → ℕ → F) → (S → ℕ → ℕ → ℕ → ℕ → ℕ → S) → Joined F S → ℕ → ℕ → ℕ → ℕ → ℕ → Joined F S
-joined-added known-1 known-2 added-1 added-2 j p kind sum last today =
-    cond (known-1 kind) (record { first = added-1 (j .first) p kind sum last today; second = j .second })
-    (cond (known-2 kind) (record { first = j .first; second = added-2 (j .second) p kind sum last today }) j)
+abbrev pub joined-added : {F S : Type 0} → (ℕ → Bool) → (ℕ → Bool) → Adds F → Adds S → Adds (Joined F S)
+joined-added known-1 known-2 add-1 add-2 j p kind sum last today =
+    cond (known-1 kind) (record { first = add-1 (j .first) p kind sum last today; second = j .second })
+    (cond (known-2 kind) (record { first = j .first; second = add-2 (j .second) p kind sum last today }) j)

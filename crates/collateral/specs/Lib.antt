@@ -3,3 +3,4 @@ pub mod Causes
 pub mod Cover
 pub mod Guarantees
 pub mod Joined
+pub mod Runs

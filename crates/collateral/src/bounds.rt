@@ -5,7 +5,7 @@ ghost use Prim.Native.Nat.{ℕ, _≤_};
 ghost use Rattle.collateral.specs.Cover.{in-range, participant};
 
 // Participants are numbered from 1 to 12.
-pub const PARTICIPANTS: u8 = 12;
+pub const PARTICIPANTS: usize = 12;
 
 // The last day that can have cover.
 pub const LAST_DAY: u16 = 9_999;
@@ -20,7 +20,7 @@ pub fn is_participant(p: u8) -> bool
     ensures value { λ r. ⌜ r ≡ participant p ⌝ }
     ensures within { λ r. ⌜ (r ≡ true → (1 ≤ p) × (p ≤ 12)) ⌝ }
 {
-    1 <= p && p <= PARTICIPANTS
+    1 <= p && p as usize <= PARTICIPANTS
 }
 
 // Whether there can be cover for the participant on the day.

@@ -4,6 +4,7 @@ ghost use lib.Dec.{eqb};
 ghost use Rattle.collateral.specs.Cash.{cash-added, cash-cover, cash-taken, cash-verdict, no-cash};
 use super::bounds::LAST_DAY;
 use super::bounds::MOST;
+use super::bounds::PARTICIPANTS;
 use super::bounds::is_in_range;
 use super::bounds::is_participant;
 use super::kind::Cause;
@@ -13,14 +14,16 @@ const CASH: u8 = 1;
 
 #[derive(Clone, Copy)]
 pub struct Cash {
-    balances: [u64; 12],
+    balances: [u64; PARTICIPANTS],
 }
 
 impl Cash {
     pub fn new() -> Cash
         ensures { λ r. ⌜ r ≡ no-cash ⌝ }
     {
-        Cash { balances: [0; 12] }
+        Cash {
+            balances: [0; PARTICIPANTS],
+        }
     }
 }
 

@@ -6,7 +6,7 @@ ghost use lib.Dec.{leb};
 ghost use lib.ListN.{length, take};
 ghost use Rattle.roll.specs.Rolls.{behind, laid};
 ghost use Rattle.roll.specs.Spending.{spent};
-ghost use Rattle.collateral.specs.Guarantees.{at-sum, earlier, folder-cover, has-free, held-in, no-folder, past-on, stored, sum-of, used, used-from, with-held};
+ghost use Rattle.collateral.specs.Guarantees.{at-sum, earlier, filed, folder-cover, has-free, paid-from, past-on, sum-of, used-from};
 use super::bounds::PLACES;
 use roll::Ranked;
 use roll::Roll;
@@ -47,8 +47,8 @@ pub impl Spendable for Guarantee as GuaranteeSpendable {
 
 #[derive(Clone, Copy)]
 pub struct Folder {
-    places: [Guarantee; 4],
-    count: usize,
+    pub(crate) places: [Guarantee; PLACES],
+    pub(crate) count: usize,
 }
 
 // The place behind the guarantees that are past on a day.
@@ -87,15 +87,6 @@ fn spend_behind(places: &mut [Guarantee], n: usize, gone: usize, sum: u64) -> us
 }
 
 impl Folder {
-    pub fn empty() -> Folder
-        ensures { λ r. ⌜ r ≡ no-folder ⌝ }
-    {
-        Folder {
-            places: [Guarantee { last: 0, sum: 0 }; 4],
-            count: 0,
-        }
-    }
-
     // How many guarantees it holds, past ones too.
     fn held(&self) -> usize
         ensures { λ r. ⌜ r ≡ min (now (self .entry) .count) 4 ⌝ }
@@ -115,7 +106,7 @@ impl Folder {
     // Pays a sum out of what is valid on the day, the one that runs out first in front.
     pub fn take(&mut self, day: u16, sum: u64) -> bool
         ensures value { λ r. ⌜ r ≡ leb sum (folder-cover (now (self .entry)) day) ⌝ }
-        ensures after { λ r. ⌜ now (self .exit) ≡ cond r (with-held (used day sum (held-in (now (self .entry)))) (now (self .entry))) (now (self .entry)) ⌝ }
+        ensures after { λ r. ⌜ now (self .exit) ≡ cond r (paid-from day sum (now (self .entry))) (now (self .entry)) ⌝ }
     {
         let n = self.held();
         let gone = past_of(&self.places[0..n], day);
@@ -129,7 +120,7 @@ impl Folder {
     // Puts a guarantee in its order, if a place is empty or past.
     pub fn put(&mut self, today: u16, g: Guarantee) -> bool
         ensures value { λ r. ⌜ r ≡ has-free today (now (self .entry)) ⌝ }
-        ensures after { λ r. ⌜ now (self .exit) ≡ cond r (with-held (stored today g (held-in (now (self .entry)))) (now (self .entry))) (now (self .entry)) ⌝ }
+        ensures after { λ r. ⌜ now (self .exit) ≡ cond r (filed today g (now (self .entry))) (now (self .entry)) ⌝ }
     {
         let n = self.held();
         let gone = past_of(&self.places[0..n], today);

@@ -2,8 +2,11 @@
 ghost use mathlib.Core.Path.{_≡_};
 ghost use lib.Dec.{eqb};
 ghost use Rattle.collateral.specs.Guarantees.{guarantees-added, guarantees-cover, guarantees-taken, guarantees-verdict, no-guarantees};
+ghost use Rattle.collateral.specs.Runs.{Runs-count};
 use super::bounds::LAST_DAY;
 use super::bounds::MOST;
+use super::bounds::PARTICIPANTS;
+use super::bounds::PLACES;
 use super::bounds::is_in_range;
 use super::bounds::is_participant;
 use super::folder::Folder;
@@ -15,15 +18,21 @@ const GUARANTEE: u8 = 2;
 
 #[derive(Clone, Copy)]
 pub struct Guarantees {
-    folders: [Folder; 12],
+    folders: [Folder; PARTICIPANTS],
 }
 
 impl Guarantees {
+    // None yet; what becomes of them counts up to each one's last day.
     pub fn new() -> Guarantees
-        ensures { λ r. ⌜ r ≡ no-guarantees ⌝ }
+        ensures value { λ r. ⌜ r ≡ no-guarantees ⌝ }
+        ensures runs { λ _. ⌜ Runs-count ⌝ }
     {
+        let empty = Folder {
+            places: [Guarantee { last: 0, sum: 0 }; PLACES],
+            count: 0,
+        };
         Guarantees {
-            folders: [Folder::empty(); 12],
+            folders: [empty; PARTICIPANTS],
         }
     }
 }

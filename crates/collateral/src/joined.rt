@@ -19,7 +19,7 @@ pub impl<F: Collateral, S: Collateral> Collateral for Joined<F, S> as JoinedColl
 
     ghost known = { λ k. F·Collateral .known k || S·Collateral .known k };
 
-    ghost verdict = { λ j p k sum last today. joined-verdict (F·Collateral .known k) (S·Collateral .known k) p (F·Collateral .verdict (j .first) p k sum last today) (S·Collateral .verdict (j .second) p k sum last today) };
+    ghost verdict = { joined-verdict (F·Collateral .known) (S·Collateral .known) (F·Collateral .verdict) (S·Collateral .verdict) };
 
     ghost taken = { joined-taken (F·Collateral .cover) (S·Collateral .cover) (F·Collateral .taken) (S·Collateral .taken) };
 

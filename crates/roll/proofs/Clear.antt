@@ -13,7 +13,7 @@ use Rattle.std.proofs.shelf.Ways.{tells}
 use Rattle.roll.specs.Rolls.{Heads, Ordered, behind, clear-of, inserted}
 use Rattle.roll.specs.Spending.{spent, spent-clear, total}
 use Rattle.roll.proofs.Orders.{inserted-more}
-use Rattle.roll.proofs.Spending.{spent-cases, spent-total}
+use Rattle.roll.proofs.Spending.{ordered-spent, spent-cases, spent-total}
 
 -- whether some record meets the test
 abbrev pub some : {X : Type 0} → (X → Bool) → List X → Bool
@@ -210,6 +210,28 @@ module _ {X : Type 0} where
 
         spent-clear-some : (x : X) (xs : List X) → (some t xs || t x) ≡ true → spent-clear amount lowered t n (x ∷ xs) ≡ x ∷ spent-clear amount lowered t n xs
         spent-clear-some x xs h = ap (λ b. let k = cond b (1 + behind t xs) 0 in take k (x ∷ xs) ++ spent amount lowered n (drop k (x ∷ xs))) h ∙ rw one-add refl
+
+        -- ordered in, ordered out
+        module _ (first : X → X → Bool) (stands : (x y : X) (k : ℕ) → first (lowered k x) y ≡ first x y) (stood : (x y : X) (k : ℕ) → first y (lowered k x) ≡ first y x) where
+          heads-spent : (m : ℕ) (x : X) (ys : List X) → Heads first x ys → Heads first x (spent amount lowered m ys)
+          heads-spent m x [] h = tt
+          heads-spent m x (y ∷ ys) h = spent-cases amount lowered (Heads first x) m y ys (λ _. heads-spent (m - amount y) x ys (h .1)) (λ _. (stood y x (amount y - m) ∙ h .0, h .1))
+
+          heads-spent-clear : (x : X) (ys : List X) → Heads first x ys → Heads first x (spent-clear amount lowered t n ys)
+          heads-spent-clear x [] h = tt
+          heads-spent-clear x (y ∷ ys) h =
+              elim (cases-bool (some t ys || t y)) [
+                | inl e ↦ subst (Heads first x) (sym (spent-clear-some y ys e)) (h .0, heads-spent-clear x ys (h .1))
+                | inr e ↦ subst (Heads first x) (sym (spent-clear-none (y ∷ ys) (some-more t y ys ∙ e))) (heads-spent n x (y ∷ ys) h)
+              ]
+
+          pub ordered-spent-clear : (xs : List X) → Ordered first xs → Ordered first (spent-clear amount lowered t n xs)
+          ordered-spent-clear [] h = tt
+          ordered-spent-clear (x ∷ xs) h =
+              elim (cases-bool (some t xs || t x)) [
+                | inl e ↦ subst (Ordered first) (sym (spent-clear-some x xs e)) (heads-spent-clear x xs (h .0), ordered-spent-clear xs (h .1))
+                | inr e ↦ subst (Ordered first) (sym (spent-clear-none (x ∷ xs) (some-more t x xs ∙ e))) (ordered-spent amount lowered first stands n (x ∷ xs) h)
+              ]
 
         -- u follows from t, or t from u
         module _ (u : X → Bool) (keeps : (x : X) (n : ℕ) → u (lowered n x) ≡ u x) (nested : ((x : X) → t x ≡ true → u x ≡ true) ⊎ ((x : X) → u x ≡ true → t x ≡ true)) where

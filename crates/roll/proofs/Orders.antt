@@ -3,7 +3,7 @@ use mathlib.Core.Path.{_≡_, refl, sym, ap, _∙_}
 use mathlib.Core.Bool.{Bool, true, false, cond, _&&_, _||_}
 use mathlib.Core.Logic.{_⊎_, inl, inr}
 use mathlib.Core.List.{List, [], _∷_, _++_}
-use Prim.Native.Nat.{ℕ, _+_, _-_, _<_, _≤_}
+use Prim.Native.Nat.{ℕ, zero, suc, _+_, _-_, _<_, _≤_}
 use native.Mathlib.Numerals.{one-add}
 use native.Mathlib.Omega.{arith}
 use lib.Dec.{ltb}
@@ -87,3 +87,9 @@ module _ {X : Type 0} (first : X → X → Bool) (either : (x y : X) → first x
         | false ↦ λ e. stop (cond-false (ltb 0 k || first y x) (1 + k) 0 e) (first z x && first x z) refl
       ] in
       rw (inserted-more first x y ys) (go (ltb 0 k || first y x) refl)
+
+-- what is left of an ordered list
+pub ordered-drop : {X : Type 0} (first : X → X → Bool) (k : ℕ) (xs : List X) → Ordered first xs → Ordered first (drop k xs)
+ordered-drop first zero xs h = h
+ordered-drop first (suc k) [] h = tt
+ordered-drop first (suc k) (x ∷ xs) h = ordered-drop first k xs (h .1)

@@ -36,15 +36,15 @@ pub fn insert_in<T: Ranked>(places: &mut [T], n: usize, x: T)
 impl<T: Ranked> Roll<'_, T> {
     // Puts `x` behind those level with it, unless no place is free.
     pub fn insert(&mut self, x: T) -> bool
-        requires { ⌜ now self .len ≤ length (row-of (now self)) ⌝ }
-        ensures value { λ r. ⌜ r ≡ has-room (now (self .entry)) ⌝ }
-        ensures list { λ r. ⌜ list-of (now (self .exit)) ≡ cond r (inserted first x (list-of (now (self .entry)))) (list-of (now (self .entry))) ⌝ }
-        ensures row { λ r. ⌜ row-of (now (self .exit)) ≡ cond r (laid (inserted first x (list-of (now (self .entry)))) (row-of (now (self .entry)))) (row-of (now (self .entry))) ⌝ }
+        requires { ⌜ now self .len ≤ length (row-of self) ⌝ }
+        ensures value { λ r. ⌜ r ≡ has-room (self .entry) ⌝ }
+        ensures list { λ r. ⌜ list-of (self .exit) ≡ cond r (inserted first x (list-of (self .entry))) (list-of (self .entry)) ⌝ }
+        ensures row { λ r. ⌜ row-of (self .exit) ≡ cond r (laid (inserted first x (list-of (self .entry))) (row-of (self .entry))) (row-of (self .entry)) ⌝ }
         ensures len { λ r. ⌜ now (self .exit) .len ≡ cond r (now (self .entry) .len + 1) (now (self .entry) .len) ⌝ }
-        ensures size { λ _. ⌜ length (row-of (now (self .exit))) ≡ length (row-of (now (self .entry))) ⌝ }
-        ensures room { λ _. ⌜ now (self .exit) .len ≤ length (row-of (now (self .exit))) ⌝ }
-        ensures order { λ _. ⌜ (Ordered first (list-of (now (self .entry))) → Ordered first (list-of (now (self .exit)))) ⌝ }
-        ensures level { λ r. ⌜ (r ≡ true → Arrived first x (list-of (now (self .entry))) (list-of (now (self .exit)))) ⌝ }
+        ensures size { λ _. ⌜ length (row-of (self .exit)) ≡ length (row-of (self .entry)) ⌝ }
+        ensures room { λ _. ⌜ now (self .exit) .len ≤ length (row-of (self .exit)) ⌝ }
+        ensures order { λ _. ⌜ (Ordered first (list-of (self .entry)) → Ordered first (list-of (self .exit))) ⌝ }
+        ensures level { λ r. ⌜ (r ≡ true → Arrived first x (list-of (self .entry)) (list-of (self .exit))) ⌝ }
         ensures lender { λ _. ⌜ name (now (self .exit) .places) ≡ name (now (self .entry) .places) ⌝ }
     {
         let n = self.len;
@@ -58,7 +58,7 @@ impl<T: Ranked> Roll<'_, T> {
 }
 
 // Moves what stands behind the first `gone` of `n` places to the front.
-pub fn close_up<T: Copy>(places: &mut [T], n: usize, gone: usize)
+pub(crate) fn close_up<T: Copy>(places: &mut [T], n: usize, gone: usize)
     requires { ⌜ gone ≤ n ⌝ ∗ ⌜ n ≤ length (now places) ⌝ }
     ensures { λ _. ⌜ now (places .exit) ≡ laid (drop gone (take n (now (places .entry)))) (now (places .entry)) ⌝ }
 {
@@ -70,12 +70,12 @@ pub fn close_up<T: Copy>(places: &mut [T], n: usize, gone: usize)
 impl<T: Copy> Roll<'_, T> {
     // Takes the first `gone` records out.
     pub fn remove_front(&mut self, gone: usize)
-        requires { ⌜ gone ≤ now self .len ⌝ ∗ ⌜ now self .len ≤ length (row-of (now self)) ⌝ }
-        ensures list { λ _. ⌜ list-of (now (self .exit)) ≡ drop gone (list-of (now (self .entry))) ⌝ }
-        ensures row { λ _. ⌜ row-of (now (self .exit)) ≡ laid (drop gone (list-of (now (self .entry)))) (row-of (now (self .entry))) ⌝ }
+        requires { ⌜ gone ≤ now self .len ⌝ ∗ ⌜ now self .len ≤ length (row-of self) ⌝ }
+        ensures list { λ _. ⌜ list-of (self .exit) ≡ drop gone (list-of (self .entry)) ⌝ }
+        ensures row { λ _. ⌜ row-of (self .exit) ≡ laid (drop gone (list-of (self .entry))) (row-of (self .entry)) ⌝ }
         ensures len { λ _. ⌜ now (self .exit) .len ≡ now (self .entry) .len - gone ⌝ }
-        ensures size { λ _. ⌜ length (row-of (now (self .exit))) ≡ length (row-of (now (self .entry))) ⌝ }
-        ensures room { λ _. ⌜ now (self .exit) .len ≤ length (row-of (now (self .exit))) ⌝ }
+        ensures size { λ _. ⌜ length (row-of (self .exit)) ≡ length (row-of (self .entry)) ⌝ }
+        ensures room { λ _. ⌜ now (self .exit) .len ≤ length (row-of (self .exit)) ⌝ }
         ensures lender { λ _. ⌜ name (now (self .exit) .places) ≡ name (now (self .entry) .places) ⌝ }
     {
         let n = self.len;

@@ -12,6 +12,7 @@ pub trait Ranked: Copy {
 
     law carries: { (x y z : Self) → first x y ≡ true → first y z ≡ true → first x z ≡ true };
 
+    // Whether it comes first or is level with the other.
     fn comes_first(&self, other: &Self) -> bool
         ensures { λ r. ⌜ r ≡ first (now (self .entry)) (now (other .entry)) ⌝ };
 }
@@ -32,6 +33,7 @@ pub trait Spendable: Ranked {
     fn amount_of(&self) -> u64
         ensures { λ r. ⌜ r ≡ amount (now (self .entry)) ⌝ };
 
+    // The record with less of its amount.
     fn lower(&self, n: u64) -> Self
         requires { ⌜ n ≤ amount (now self) ⌝ }
         ensures { λ r. ⌜ r ≡ lowered n (now (self .entry)) ⌝ };

@@ -2,7 +2,6 @@
 ghost use mathlib.Core.Path.{_≡_};
 ghost use Prim.Native.Nat.{ℕ};
 ghost use denote.Ref.{name};
-ghost use Rattle.roll.specs.Views.{row-of};
 
 // The first `len` places hold records, the others are free.
 #[derive(Drop)]
@@ -12,9 +11,10 @@ pub struct Roll<'a, T> {
 }
 
 impl<'a, T> Roll<'a, T> {
+    // A roll in lent places, of which the first `len` hold records.
     pub fn over(places: &'a mut [T], len: usize) -> Roll<'a, T>
         ensures len { λ r. ⌜ r .len ≡ len ⌝ }
-        ensures row { λ r. ⌜ row-of r ≡ now (places .entry) ⌝ }
+        ensures row { λ r. ⌜ now (r .places) ≡ now (places .entry) ⌝ }
         ensures lender { λ r. ⌜ name (r .places) ≡ name (places .entry) ⌝ }
     {
         Roll { places, len }

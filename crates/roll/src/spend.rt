@@ -25,15 +25,15 @@ pub fn left_over<T: Spendable>(records: &[T], sum: u64) -> u64
 fn emptied<T: Spendable>(records: &[T], sum: u64) -> (usize, u64)
     ensures { λ r. ⌜ Emptied amount lowered sum (now (records .entry)) (r .0) (r .1) ⌝ }
 {
-    let mut left = sum;
+    let mut rest = sum;
     for (i, x) in records.iter().enumerate() {
         let amount = x.amount_of();
-        if left < amount {
-            return (i, left);
+        if rest < amount {
+            return (i, rest);
         }
-        left -= amount;
+        rest -= amount;
     }
-    (records.len(), left)
+    (records.len(), rest)
 }
 
 // Spends a sum along the first `n` places: how many still hold records, and what is left of the sum.
@@ -56,16 +56,16 @@ pub fn spend_in<T: Spendable>(places: &mut [T], n: usize, sum: u64) -> (usize, u
 impl<T: Spendable> Roll<'_, T> {
     // Spends a sum along the roll: the sum spent and the sum left over.
     pub fn spend(&mut self, sum: u64) -> (u64, u64)
-        requires { ⌜ now self .len ≤ length (row-of (now self)) ⌝ }
-        ensures value { λ r. ⌜ r ≡ (min sum (total amount (list-of (now (self .entry)))), sum - total amount (list-of (now (self .entry)))) ⌝ }
-        ensures list { λ _. ⌜ list-of (now (self .exit)) ≡ spent amount lowered sum (list-of (now (self .entry))) ⌝ }
-        ensures row { λ _. ⌜ row-of (now (self .exit)) ≡ laid (spent amount lowered sum (list-of (now (self .entry)))) (row-of (now (self .entry))) ⌝ }
-        ensures len { λ _. ⌜ now (self .exit) .len ≡ length (spent amount lowered sum (list-of (now (self .entry)))) ⌝ }
+        requires { ⌜ now self .len ≤ length (row-of self) ⌝ }
+        ensures value { λ r. ⌜ r ≡ (min sum (total amount (list-of (self .entry))), sum - total amount (list-of (self .entry))) ⌝ }
+        ensures list { λ _. ⌜ list-of (self .exit) ≡ spent amount lowered sum (list-of (self .entry)) ⌝ }
+        ensures row { λ _. ⌜ row-of (self .exit) ≡ laid (spent amount lowered sum (list-of (self .entry))) (row-of (self .entry)) ⌝ }
+        ensures len { λ _. ⌜ now (self .exit) .len ≡ length (spent amount lowered sum (list-of (self .entry))) ⌝ }
         ensures parts { λ r. ⌜ r .0 + r .1 ≡ sum ⌝ }
-        ensures balance { λ r. ⌜ total amount (list-of (now (self .entry))) ≡ total amount (list-of (now (self .exit))) + r .0 ⌝ }
-        ensures size { λ _. ⌜ length (row-of (now (self .exit))) ≡ length (row-of (now (self .entry))) ⌝ }
-        ensures room { λ _. ⌜ now (self .exit) .len ≤ length (row-of (now (self .exit))) ⌝ }
-        ensures order { λ _. ⌜ (Ordered (T·Ranked .first) (list-of (now (self .entry))) → Ordered (T·Ranked .first) (list-of (now (self .exit)))) ⌝ }
+        ensures balance { λ r. ⌜ total amount (list-of (self .entry)) ≡ total amount (list-of (self .exit)) + r .0 ⌝ }
+        ensures size { λ _. ⌜ length (row-of (self .exit)) ≡ length (row-of (self .entry)) ⌝ }
+        ensures room { λ _. ⌜ now (self .exit) .len ≤ length (row-of (self .exit)) ⌝ }
+        ensures order { λ _. ⌜ (Ordered (T·Ranked .first) (list-of (self .entry)) → Ordered (T·Ranked .first) (list-of (self .exit))) ⌝ }
         ensures lender { λ _. ⌜ name (now (self .exit) .places) ≡ name (now (self .entry) .places) ⌝ }
     {
         let n = self.len;

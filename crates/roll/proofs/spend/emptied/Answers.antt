@@ -13,5 +13,5 @@ loop-i-again g c =
     let xs = c .args .records .now in
     let x = c .index-records-i .result in
     let m = total-more (t .amount) xs i x (c .loop-i-test .taken) (c .index-records-i .is) in
-    let h : t .amount x ≤ c .loop-i .left = omega arith in
-    (omega arith, c .loop-i .inv .1 ∙ spent-more (t .amount) (t .lowered) xs i (c .loop-i .left) x (c .loop-i-test .taken) (c .index-records-i .is) h ∙ ap (λ z. spent (t .amount) (t .lowered) (c .loop-i .left - z) (drop (i + 1) xs)) (sym (c .amount-of-amount .ensures)))
+    let h : t .amount x ≤ c .loop-i .rest = omega arith in
+    (omega arith, c .loop-i .inv .1 ∙ spent-more (t .amount) (t .lowered) xs i (c .loop-i .rest) x (c .loop-i-test .taken) (c .index-records-i .is) h ∙ ap (λ z. spent (t .amount) (t .lowered) (c .loop-i .rest - z) (drop (i + 1) xs)) (sym (c .amount-of-amount .ensures)))

@@ -7,4 +7,4 @@ use Rattle.roll.proofs.spend.emptied.Given as given
 abbrev pub Inv-loop-i : given.InvT-loop-i
 Inv-loop-i g l =
     let t = g .T·Spendable in
-    (l .sum + total (t .amount) (drop (l .i) (l .records)) ≡ l .left + total (t .amount) (l .records)) × (spent (t .amount) (t .lowered) (l .sum) (l .records) ≡ spent (t .amount) (t .lowered) (l .left) (drop (l .i) (l .records)))
+    (l .sum + total (t .amount) (drop (l .i) (l .records)) ≡ l .rest + total (t .amount) (l .records)) × (spent (t .amount) (t .lowered) (l .sum) (l .records) ≡ spent (t .amount) (t .lowered) (l .rest) (drop (l .i) (l .records)))

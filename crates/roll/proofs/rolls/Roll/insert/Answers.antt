@@ -11,7 +11,7 @@ returns g c =
     let first = g .T·Ranked .first in
     let laws = g .T·Ranked·met in
     let x = c .args .x in
-    let was = list-of (c .args .self .now) in
+    let was = list-of (c .args .self) in
     let list = put-front first x _ _ _ (c .if-n-self .left) (c .insert-in .ensures) in
     record {
       value = search needs;
