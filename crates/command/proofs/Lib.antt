@@ -1,1 +1,3 @@
 pub mod Onward
+pub mod Lay
+pub mod Room

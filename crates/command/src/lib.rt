@@ -1,9 +1,12 @@
 // The command file: what a command says, how it is read off bytes and written as bytes, and the line that answers it.
 mod commands;
+mod lines;
+mod page;
 mod reader;
 mod unreadable;
 
 pub use commands::Command;
+pub use lines::Line;
 pub use reader::Found;
 pub use reader::read;
 pub use unreadable::Unreadable;
