@@ -1,3 +1,4 @@
 pub mod Onward
 pub mod Lay
 pub mod Room
+pub mod Back

@@ -4,3 +4,4 @@ pub mod Reading
 pub mod Unreadable
 pub mod Page
 pub mod Lines
+pub mod Encoding

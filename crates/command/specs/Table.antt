@@ -1,8 +1,10 @@
 -- The table of the commands: each letter, the widths of its operands in bytes, and what they say.
+use mathlib.Core.Bool.{cond}
 use mathlib.Core.List.{List, [], _∷_}
 use Prim.Native.Nat.{ℕ, zero, suc, _+_, _*_, _^_}
 use Prim.Native.String.{String}
 use lib.Chars.{codes}
+use lib.Dec.{eqb}
 use lib.ListN.{getD, take, drop}
 use Rattle.command.specs.Meaning.{Meaning, adds, withdraws, opens, bids, seals, awards, cancels, transfers, gives-back, curtails, invoices, pays, draws, pays-out, moves-day}
 
@@ -37,6 +39,14 @@ table =
     ∷ row "Q" (1 ∷ []) (λ n b. pays-out (n 0))
     ∷ row "N" (2 ∷ []) (λ n b. moves-day (n 0))
     ∷ []
+
+abbrev row-in : List Row → ℕ → Row
+row-in [] l = row "" [] (λ n b. moves-day 0)
+row-in (r ∷ rs) l = cond (eqb l (r .letter)) r (row-in rs l)
+
+-- the row of a letter of the table
+abbrev pub row-of : ℕ → Row
+row-of l = row-in table l
 
 -- the number in the w bytes from `at`, most significant byte first
 abbrev pub number-at : List ℕ → ℕ → ℕ → ℕ
