@@ -2,3 +2,4 @@ pub mod Onward
 pub mod Lay
 pub mod Room
 pub mod Back
+pub mod Written

@@ -1,13 +1,14 @@
 -- A command as bytes: its letter, and each operand in the bytes of its width.
 use mathlib.Core.Path.{_≡_}
 use mathlib.Core.List.{List, [], _∷_, _++_}
-use Prim.Native.Nat.{ℕ, zero, suc, _+_, _/_, _%_, _^_, _<_}
+use Prim.Native.Nat.{ℕ, zero, suc, _+_, _/_, _%_, _^_, _<_, _≤_}
 use lib.ListN.{length}
 use Rattle.std.specs.declared.option.Option.the-variants.{Some}
 use Rattle.std.specs.declared.result.Result.the-variants.{Ok}
 use Rattle.command.specs.Meaning.{Meaning, adds, withdraws, opens, bids, seals, awards, cancels, transfers, gives-back, curtails, invoices, pays, draws, pays-out, moves-day}
 use Rattle.command.specs.Table.{byte, row-of}
 use Rattle.command.specs.Reading.{reading}
+use Rattle.command.specs.Page.{laid}
 
 abbrev pub letter-of : Meaning → ℕ
 letter-of (adds p kind sum last) = byte "D"
@@ -68,6 +69,10 @@ big-endian zero n = []
 big-endian (suc zero) n = n % 256 ∷ []
 big-endian (suc (suc w)) n = n / 256 ^ suc w % 256 ∷ big-endian (suc w) n
 
+abbrev pub one-byte-each : List ℕ → List ℕ
+one-byte-each [] = []
+one-byte-each (n ∷ ns) = big-endian 1 n ++ one-byte-each ns
+
 -- each number in its width
 abbrev pub packed : List ℕ → List ℕ → List ℕ
 packed [] ns = []
@@ -113,3 +118,10 @@ abbrev pub Reads-back : Meaning → List ℕ → Type 0
 Reads-back m bytes =
     (before rest : List ℕ) →
     reading (before ++ (bytes ++ rest)) (length before) ≡ Some (Ok (record { meaning = m; next = length before + length bytes }))
+
+-- the bytes of a command at the front of `out`, all its other bytes as they were, and the number of these bytes
+pub record Encoded (m : Meaning) (out out′ : List ℕ) (size : ℕ) : Type 0 where
+  pub after : out′ ≡ laid 0 (encoding m) out
+  pub value : size ≡ length (encoding m)
+  pub within : size ≤ 52
+  pub back : Reads-back m (encoding m)

@@ -1,5 +1,6 @@
 // The command file: what a command says, how it is read off bytes and written as bytes, and the line that answers it.
 mod commands;
+mod encoder;
 mod lines;
 mod page;
 mod reader;
