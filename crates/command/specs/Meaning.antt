@@ -1,6 +1,11 @@
 -- What a command says: which call it asks for, and its operands as numbers.
+use mathlib.Core.Bool.{cond}
 use mathlib.Core.List.{List}
-use Prim.Native.Nat.{ℕ}
+use Prim.Native.Nat.{ℕ, _+_, _*_}
+use lib.Dec.{ltb}
+use lib.ListN.{getD}
+use Rattle.std.specs.declared.option.Option.{Option}
+use Rattle.std.specs.declared.option.Option.the-variants.{Some, None}
 use Rattle.command.specs.declared.commands.Command.{Command}
 use Rattle.command.specs.declared.commands.Command.the-variants.{Add, Withdraw, Open, Bid, Seal, Award, Cancel, Transfer, Return, Curtail, Invoice, Payment, Draw, Payout, Day}
 
@@ -38,3 +43,11 @@ meaning-of (Payment p sum) = pays p sum
 meaning-of (Draw p) = draws p
 meaning-of (Payout p) = pays-out p
 meaning-of (Day day) = moves-day day
+
+-- limit k of a curtailment's bytes: two bytes, the more significant first
+abbrev pub limit-at : ℕ → List ℕ → ℕ
+limit-at k limits = getD limits (2 * k) 0 * 256 + getD limits (2 * k + 1) 0
+
+-- there are 24 of them
+abbrev pub limit-named : ℕ → List ℕ → Option ℕ
+limit-named k limits = cond (ltb k 24) (Some (limit-at k limits)) None

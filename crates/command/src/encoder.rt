@@ -6,11 +6,12 @@ ghost use Rattle.command.specs.Encoding.{Encoded, one-byte-each};
 ghost use Rattle.command.specs.Meaning.{meaning-of};
 ghost use Rattle.command.specs.Page.{laid};
 use crate::commands::Command;
+use crate::commands::LONGEST_COMMAND;
 use crate::page::put_text;
 
 impl Command<'_> {
     // Writes the command at the front of `out`, and answers how many bytes it takes.
-    pub fn encode(self, out: &mut [u8; 52]) -> usize
+    pub fn encode(self, out: &mut [u8; LONGEST_COMMAND]) -> usize
         ensures { λ r. ⌜ Encoded (meaning-of (self .entry)) (now (out .entry)) (now (out .exit)) r ⌝ }
     {
         match self {

@@ -7,6 +7,10 @@ mod reader;
 mod unreadable;
 
 pub use commands::Command;
+pub use commands::HOURS_CUT;
+pub use commands::LIMIT_BYTES;
+pub use commands::LONGEST_COMMAND;
+pub use commands::limit;
 pub use lines::Line;
 pub use reader::Found;
 pub use reader::read;

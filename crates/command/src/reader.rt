@@ -6,6 +6,8 @@ ghost use Rattle.std.specs.Options.{Cases as BySome};
 ghost use Rattle.command.specs.Reading.{Onward, by-letter, reading, taken-as, understood};
 ghost use Rattle.command.specs.Table.{byte, part};
 use crate::commands::Command;
+use crate::commands::LIMIT_BYTES;
+use crate::commands::LONGEST_COMMAND;
 use crate::unreadable::Unreadable;
 
 // A command and the place behind it in the input.
@@ -239,13 +241,13 @@ fn give_back<'a>(input: &'a [u8]) -> Result<Taken<'a>, Unreadable>
 }
 
 // The 48 bytes behind the letter and three operands.
-fn limits<'a>(input: &'a [u8]) -> Option<&'a [u8; 48]>
+fn limits<'a>(input: &'a [u8]) -> Option<&'a [u8; LIMIT_BYTES]>
     ensures { λ r. ⌜ BySome r (length (now (input .entry)) < 52) (λ x. (52 ≤ length (now (input .entry))) × (x .now ≡ part 4 48 (now (input .entry)))) ⌝ }
 {
     if input.len() < 4 {
         return None;
     }
-    input[4..].first_chunk::<48>()
+    input[4..].first_chunk::<LIMIT_BYTES>()
 }
 
 fn curtail<'a>(input: &'a [u8]) -> Result<Taken<'a>, Unreadable>
@@ -263,7 +265,10 @@ fn curtail<'a>(input: &'a [u8]) -> Result<Taken<'a>, Unreadable>
         first_hour: *first_hour,
         limits,
     };
-    Ok(Taken { command, size: 52 })
+    Ok(Taken {
+        command,
+        size: LONGEST_COMMAND,
+    })
 }
 
 fn invoice<'a>(input: &'a [u8]) -> Result<Taken<'a>, Unreadable>
