@@ -1,5 +1,1 @@
 pub mod Onward
-pub mod Lay
-pub mod Room
-pub mod Back
-pub mod Written

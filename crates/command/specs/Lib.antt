@@ -2,6 +2,3 @@ pub mod Meaning
 pub mod Table
 pub mod Reading
 pub mod Unreadable
-pub mod Page
-pub mod Lines
-pub mod Encoding

@@ -40,6 +40,24 @@ table =
     ∷ row "N" (2 ∷ []) (λ n b. moves-day (n 0))
     ∷ []
 
+-- the letter of a command
+abbrev pub letter-of : Meaning → ℕ
+letter-of (adds p kind sum last) = byte "D"
+letter-of (withdraws p sum) = byte "W"
+letter-of (opens from to first hours capacity) = byte "O"
+letter-of (bids p a price mw) = byte "B"
+letter-of (seals a) = byte "S"
+letter-of (awards a) = byte "A"
+letter-of (cancels a) = byte "X"
+letter-of (transfers giver taker a first hours mw) = byte "T"
+letter-of (gives-back p out into mw) = byte "R"
+letter-of (curtails from to first limits) = byte "C"
+letter-of (invoices p) = byte "I"
+letter-of (pays p sum) = byte "M"
+letter-of (draws p) = byte "K"
+letter-of (pays-out p) = byte "Q"
+letter-of (moves-day day) = byte "N"
+
 abbrev row-in : List Row → ℕ → Row
 row-in [] l = row "" [] (λ n b. moves-day 0)
 row-in (r ∷ rs) l = cond (eqb l (r .letter)) r (row-in rs l)

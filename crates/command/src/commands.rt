@@ -1,7 +1,7 @@
 // The fifteen commands and their operands.
 ghost use mathlib.Core.Path.{_≡_};
-ghost use Rattle.command.specs.Encoding.{letter-of};
 ghost use Rattle.command.specs.Meaning.{limit-named, meaning-of};
+ghost use Rattle.command.specs.Table.{letter-of};
 
 // A curtailment has a limit of two bytes for each of 24 hours.
 pub const HOURS_CUT: usize = 24;

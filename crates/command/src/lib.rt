@@ -1,8 +1,5 @@
-// The command file: what a command says, how it is read off bytes and written as bytes, and the line that answers it.
+// The command file: what a command says, and how it is read off bytes.
 mod commands;
-mod encoder;
-mod lines;
-mod page;
 mod reader;
 mod unreadable;
 
@@ -11,7 +8,6 @@ pub use commands::HOURS_CUT;
 pub use commands::LIMIT_BYTES;
 pub use commands::LONGEST_COMMAND;
 pub use commands::limit;
-pub use lines::Line;
 pub use reader::Found;
 pub use reader::read;
 pub use unreadable::Unreadable;

@@ -1,8 +1,0 @@
-use borrow.Author.Needs.{needs}
-use lib.Seq.{drop-drop}
-use Rattle.command.specs.Page.{laid}
-use Rattle.command.proofs.page.put_text.Needs as need
-
-pub returns : need.returns
-unfolding laid
-returns c = search (needs, drop-drop)
