@@ -4,3 +4,4 @@ mod writer;
 
 pub use page::put_text;
 pub use writer::Line;
+pub use writer::Numbers;
