@@ -1,0 +1,4 @@
+pub mod Meaning
+pub mod Table
+pub mod Reading
+pub mod Unreadable
