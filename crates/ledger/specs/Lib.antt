@@ -1,4 +1,5 @@
 pub mod Auctions
+pub mod Bounds
 pub mod Ledgers
 pub mod Limits
 pub mod Moves
