@@ -1,4 +1,5 @@
 pub mod Behind
+pub mod Changes
 pub mod InPlace
 pub mod Maxima
 pub mod Moves
