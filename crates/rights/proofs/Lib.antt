@@ -4,3 +4,5 @@ pub mod Pairs
 pub mod Lost
 pub mod Tight
 pub mod Curtailments
+pub mod Totals
+pub mod Earned

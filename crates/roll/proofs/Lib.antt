@@ -1,7 +1,8 @@
 pub mod Behind
+pub mod Changes
 pub mod Clear
-pub mod Insertions
 pub mod InPlace
+pub mod Insertions
 pub mod Maxima
 pub mod Moves
 pub mod Orders
