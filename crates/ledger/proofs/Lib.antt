@@ -1,4 +1,5 @@
 pub mod Sheets
 pub mod Kept
 pub mod Loads
+pub mod Owing
 pub mod Sounds
