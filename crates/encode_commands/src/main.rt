@@ -2,6 +2,7 @@
 use command_text::Expected;
 use command_text::encode_line;
 use std::io;
+use std::io::BufRead;
 use std::io::BufReader;
 use std::io::Write;
 
