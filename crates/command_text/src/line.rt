@@ -13,7 +13,7 @@ use crate::words::skip_blanks;
 use command::LONGEST_COMMAND;
 
 // What should have stood in a line that cannot be read.
-#[derive(Clone, Copy, PartialEq, Eq, Debug)]
+#[derive(Clone, Copy)]
 pub enum Expected {
     Letter,
     Operands { letter: u8 },
