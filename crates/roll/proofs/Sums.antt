@@ -3,7 +3,7 @@ use mathlib.Core.Path.{_≡_, refl}
 use mathlib.Core.List.{List, [], _∷_, _++_, map}
 use Prim.Native.Nat.{ℕ, zero, suc, _+_, _*_, _<_, _≤_, min}
 use native.Mathlib.Omega.{arith}
-use native.Mathlib.Nat.{le-of-suc-le-suc}
+use native.Mathlib.Nat.{le-of-suc-le-suc, mul-suc}
 use native.Mathlib.Numerals.{add-one}
 use lib.ListN.{length, getD, take, set, replicate}
 use Rattle.roll.specs.Sums.{sum-of}
@@ -68,3 +68,8 @@ sum-set-ge f (x ∷ xs) (suc i) y d b h le = omega (arith, sum-set-ge f xs i y d
 -- one record more, and the sum so far is still at most the whole
 pub sum-step : {X : Type 0} (f : X → ℕ) (xs : List X) (i sum : ℕ) (d : X) → i < length xs → sum ≡ sum-of f (take i xs) → (sum + f (getD xs i d) ≡ sum-of f (take (i + 1) xs)) × (sum + f (getD xs i d) ≤ sum-of f xs)
 sum-step f xs i sum d h e = let m = sum-more f xs i d h in let t = sum-take f (i + 1) xs in (omega arith, omega arith)
+
+-- a sum is at most the number of records times the most of one
+pub sum-each : {X : Type 0} (f : X → ℕ) (m : ℕ) (xs : List X) → ((x : X) → f x ≤ m) → sum-of f xs ≤ m * length xs
+sum-each f m [] h = omega arith
+sum-each f m (x ∷ xs) h = omega (arith, h x, sum-each f m xs h, mul-suc m (length xs))
