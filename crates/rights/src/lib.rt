@@ -13,7 +13,6 @@ pub use hours::Hour;
 pub use hours::PARTICIPANTS;
 pub use returns::give_back;
 pub use returns::return_out;
-pub use returns::wait_more;
 pub use returns::waits;
 pub use transfers::hold_awarded;
 pub use transfers::holds_through;

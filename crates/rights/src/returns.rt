@@ -5,8 +5,8 @@ ghost use Prim.Native.Nat.{ℕ, _+_, _<_, _≤_};
 ghost use lib.ListN.{replicate};
 ghost use Rattle.roll.specs.Rows.{each-with};
 ghost use Rattle.rights.specs.Bounds.{At-most, Fits, Room-for};
-ghost use Rattle.rights.specs.Holdings.{mw-of, holding, holds-through};
-ghost use Rattle.rights.specs.Returns.{returned, waiting-more, restored, given-back, waits-of};
+ghost use Rattle.rights.specs.Holdings.{mw-of, holds-through};
+ghost use Rattle.rights.specs.Returns.{returned, restored, given-back, waits-of};
 use super::hours::AUCTIONS;
 use super::hours::HOURS;
 use super::hours::Hour;
@@ -27,17 +27,8 @@ pub fn return_out(
     ensures { λ _. ⌜ now (rights .exit) ≡ returned a p mw first hours (now (rights .entry)) ⌝ }
 {
     for h in first..first + hours {
-        rights[h].rows[a][p] -= mw;
+        rights[h].take(a, p, mw);
     }
-}
-
-// Lets them wait in the auction that they enter.
-pub fn wait_more(waiting: &mut Hour, a: usize, p: usize, mw: u16)
-    requires who { ⌜ a < 8 ⌝ ∗ ⌜ p < 12 ⌝ }
-    requires room { ⌜ holding a p (now waiting) + mw ≤ 65535 ⌝ }
-    ensures { λ _. ⌜ now (waiting .exit) ≡ waiting-more a p mw (now (waiting .entry)) ⌝ }
-{
-    waiting.rows[a][p] += mw;
 }
 
 // Adds what left one auction's holdings to them again, in one hour.
@@ -77,8 +68,8 @@ fn add_row(sums: &mut [u32; PARTICIPANTS], row: &[u16; PARTICIPANTS])
     ensures value { λ _. ⌜ now (sums .exit) ≡ each-with (λ mw sum. sum + mw) (now (row .entry)) (now (sums .entry)) ⌝ }
     ensures within { λ _. ⌜ ((m : ℕ) → At-most m (now (sums .entry)) → At-most (m + 65535) (now (sums .exit))) ⌝ }
 {
-    for p in 0..PARTICIPANTS {
-        sums[p] += u32::from(row[p]);
+    for (p, mw) in row.iter().enumerate() {
+        sums[p] += u32::from(*mw);
     }
 }
 

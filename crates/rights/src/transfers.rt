@@ -23,7 +23,7 @@ pub fn holds_through(
     ensures { λ r. ⌜ r ≡ holds-through a p mw first hours (now (rights .entry)) ⌝ }
 {
     for hour in &rights[first..first + hours] {
-        if hour.rows[a][p] < mw {
+        if !hour.holds(a, p, mw) {
             return false;
         }
     }
@@ -73,6 +73,6 @@ pub fn hold_awarded(
     ensures { λ _. ⌜ now (rights .exit) ≡ awarded a (now (mw .entry)) first hours (now (rights .entry)) ⌝ }
 {
     for h in first..first + hours {
-        rights[h].rows[a] = *mw;
+        rights[h].hold(a, mw);
     }
 }
