@@ -1,7 +1,7 @@
 use native.Mathlib.Omega.{arith}
 use Rattle.rights.specs.Holdings.{with-row, no-hour}
 use Rattle.rights.proofs.Spans.{over-start, span-step, span-end}
-use Rattle.rights.proofs.transfers.hold_awarded.Needs as need
+use Rattle.rights.proofs.awards.hold_awarded.Needs as need
 
 pub loop-h-holds : need.loop-h-holds
 loop-h-holds c = over-start (with-row (c .args .a) (c .args .mw .now)) (c .args .first) (c .args .rights .now)
