@@ -49,7 +49,7 @@ fn returned_rights_leave_and_wait() -> Result<(), Fail> {
     let mut waiting = Hour::empty();
     if holds_through(&rights, 2, 4, 12, 4, 1) {
         return_out(&mut rights, 2, 4, 12, 4, 1);
-        wait_more(&mut waiting, 2, 4, 12);
+        waiting.wait_more(2, 4, 12);
     }
     check_eq([rights[3].holding(2, 4), rights[4].holding(2, 4)], [30, 18])?;
     check_eq(waits(&waiting), [0, 0, 0, 0, 12, 0, 0, 0, 0, 0, 0, 0])

@@ -1,10 +1,10 @@
-// What an award brings to the holdings, and transfers of them, in each hour of a span.
+// Transfers of MW from one participant to another, in each hour of a span.
 ghost use mathlib.Core.Path.{_≡_};
 ghost use mathlib.Core.Bool.{true};
 ghost use Prim.Native.Nat.{_+_, _<_, _≤_};
 ghost use lib.ListN.{getD};
 ghost use Rattle.rights.specs.Bounds.{Not-full};
-ghost use Rattle.rights.specs.Holdings.{holds-through, fewer, more, transferred, awarded};
+ghost use Rattle.rights.specs.Holdings.{holds-through, fewer, more, transferred};
 use super::hours::HOURS;
 use super::hours::Hour;
 use super::hours::PARTICIPANTS;
@@ -23,7 +23,7 @@ pub fn holds_through(
     ensures { λ r. ⌜ r ≡ holds-through a p mw first hours (now (rights .entry)) ⌝ }
 {
     for hour in &rights[first..first + hours] {
-        if hour.rows[a][p] < mw {
+        if !hour.holds(a, p, mw) {
             return false;
         }
     }
@@ -58,21 +58,5 @@ pub fn transfer(
 {
     for h in first..first + hours {
         hand(&mut rights[h].rows[a], giver, taker, mw);
-    }
-}
-
-// The MW that an award gives to each participant are held in each hour.
-pub fn hold_awarded(
-    rights: &mut [Hour; HOURS],
-    a: usize,
-    mw: &[u16; PARTICIPANTS],
-    first: usize,
-    hours: usize,
-)
-    requires { ⌜ a < 8 ⌝ ∗ ⌜ first + hours ≤ 192 ⌝ }
-    ensures { λ _. ⌜ now (rights .exit) ≡ awarded a (now (mw .entry)) first hours (now (rights .entry)) ⌝ }
-{
-    for h in first..first + hours {
-        rights[h].rows[a] = *mw;
     }
 }

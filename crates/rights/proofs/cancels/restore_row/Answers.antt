@@ -6,7 +6,7 @@ use lib.ListN.{getD}
 use Rattle.std.proofs.shelf.Lists.{take-all}
 use Rattle.roll.proofs.Rows.{with-rest, with-step}
 use Rattle.rights.proofs.Bounds.{at-le-sum}
-use Rattle.rights.proofs.returns.restore_row.Needs as need
+use Rattle.rights.proofs.cancels.restore_row.Needs as need
 
 pub add-row : need.add-row
 add-row c =

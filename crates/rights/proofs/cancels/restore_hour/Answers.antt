@@ -7,7 +7,7 @@ use lib.ListN.{getD}
 use Rattle.std.proofs.shelf.Lists.{take-all}
 use Rattle.roll.specs.Rows.{each-with}
 use Rattle.roll.proofs.Rows.{with-rest, with-step}
-use Rattle.rights.proofs.returns.restore_hour.Needs as need
+use Rattle.rights.proofs.cancels.restore_hour.Needs as need
 
 pub restore-row-requires : need.restore-row-requires
 restore-row-requires c κs =

@@ -4,7 +4,7 @@ use native.Mathlib.Omega.{arith}
 use Rattle.rights.specs.Holdings.{no-hour}
 use Rattle.rights.specs.Returns.{restored}
 use Rattle.rights.proofs.Spans.{over-start, span-rest, span-step, span-end}
-use Rattle.rights.proofs.returns.give_back.Needs as need
+use Rattle.rights.proofs.cancels.give_back.Needs as need
 
 pub restore-hour-requires : need.restore-hour-requires
 restore-hour-requires c κs =
