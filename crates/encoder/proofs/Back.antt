@@ -85,7 +85,7 @@ row-back r ns rest m says f l =
     whole-is s (1 + total (r .widths)) _ m room ((λ i. r .says (λ k. e k i) bs) ∙ says bs)
 
 -- what stands behind other bytes is read as it would be alone
-placed : (before s : List ℕ) (r : Result Read Unreadable) → 0 < length s → by-letter (getD s 0 0) s ≡ r → reading (before ++ s) (length before) ≡ Some (from-place (length before) r)
+pub placed : (before s : List ℕ) (r : Result Read Unreadable) → 0 < length s → by-letter (getD s 0 0) s ≡ r → reading (before ++ s) (length before) ≡ Some (from-place (length before) r)
 placed before s r h e =
     let first = ap (λ k. getD (before ++ s) k 0) (sym (add-zero (length before))) ∙ getD-append-add before s 0 0 in
     let room : length before < length (before ++ s) = simp length-append (omega arith) in
