@@ -2,7 +2,7 @@
 use mathlib.Core.Path.{_≡_, refl, ap, sym, subst, _∙_}
 use mathlib.Core.Bool.{Bool, true, false, cond}
 use mathlib.Core.List.{List, [], _∷_, _++_}
-use Prim.Native.Nat.{ℕ, suc, _+_, _≤_, _<_}
+use Prim.Native.Nat.{ℕ, _+_, _≤_}
 use native.Mathlib.Omega.{arith}
 use borrow.Author.Tests.{le-leb, eqb-true}
 use lib.Dec.{eqb, leb}
@@ -18,9 +18,9 @@ use Rattle.command.specs.Table.{Row, table, total}
 use Rattle.command.specs.Reading.{Read, by-letter, by-rows, whole}
 use Rattle.encoder.specs.Encoding.{big-endian}
 use Rattle.encoder.proofs.Back.{length-big-endian, placed}
-use Rattle.command_text.specs.Words.{past-blanks, past-digits, starts-digit, value-on}
+use Rattle.command_text.specs.Words.{past-blanks, past-digits, value-on}
 use Rattle.command_text.specs.declared.line.Expected.{Expected}
-use Rattle.command_text.specs.Lines.{One-command, behind, by-operands, by-widths, ends, from-word, in-text, line-bytes, one-operand, operand-bytes, said, said-in}
+use Rattle.command_text.specs.Lines.{One-command, behind, by-operands, by-widths, ends, from-word, in-text, line-bytes, operand-bytes, said, said-in}
 
 abbrev Got : ℕ → Result Read Unreadable → Type 0
 Got n r = (m : Meaning) × (r ≡ Ok (record { meaning = m; bytes = n }))
