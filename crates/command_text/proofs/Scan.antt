@@ -2,7 +2,7 @@
 use mathlib.Core.Path.{_≡_, refl, ap, sym, subst, _∙_}
 use mathlib.Core.Bool.{Bool, true, false, cond, _&&_}
 use mathlib.Core.Logic.{_≢_}
-use mathlib.Core.List.{List, [], _∷_, _++_, map}
+use mathlib.Core.List.{List, [], _∷_, map}
 use Prim.Native.Nat.{ℕ, suc, _+_, _-_, _^_, _≤_, _<_}
 use native.Mathlib.Omega.{arith}
 use borrow.Author.Tests.{lt-ltb, ne-eqb}
@@ -20,7 +20,7 @@ use Rattle.lines.proofs.Lay.{laid-next, laid-none}
 use Rattle.command_text.specs.declared.line.Expected.the-variants.{Operands}
 use Rattle.command_text.specs.declared.widths.Width.{Width}
 use Rattle.command_text.specs.declared.widths.Width.the-variants.{Byte}
-use Rattle.command_text.specs.Words.{Numeral, past-blanks, past-digits, starts-digit, value-on}
+use Rattle.command_text.specs.Words.{Numeral, past-blanks, past-digits, value-on}
 use Rattle.command_text.specs.Lines.{Packed, Scanned, behind, by-operands, by-widths, bytes-in, ends, from-word, line-bytes, one-operand, operand-bytes, said}
 
 -- the first width, and the others

@@ -1,6 +1,6 @@
 -- A line of text: a letter of the table, and a number for each of its operands.
 use mathlib.Core.Path.{_≡_}
-use mathlib.Core.Bool.{Bool, true, false, cond, _&&_}
+use mathlib.Core.Bool.{Bool, true, cond, _&&_}
 use mathlib.Core.List.{List, [], _∷_, _++_}
 use Prim.Native.Nat.{ℕ, _+_, _^_, _<_, _≤_}
 use lib.Dec.{eqb, ltb}
@@ -9,6 +9,8 @@ use Rattle.std.specs.declared.option.Option.{Option}
 use Rattle.std.specs.declared.option.Option.the-variants.{Some, None}
 use Rattle.std.specs.declared.result.Result.{Result}
 use Rattle.std.specs.declared.result.Result.the-variants.{Ok, Err}
+use Rattle.command.specs.Meaning.{Meaning}
+use Rattle.command.specs.Reading.{reading}
 use Rattle.command.specs.Table.{Row, byte, table}
 use Rattle.encoder.specs.Encoding.{big-endian}
 use Rattle.lines.specs.Page.{laid}
@@ -26,11 +28,11 @@ bytes-in Quad = 4
 bytes-in Sum = 8
 
 -- the 48 bytes of the limits are said as 24 numbers of two bytes
-abbrev in-text : List ℕ → List ℕ
+abbrev pub in-text : List ℕ → List ℕ
 in-text [] = []
 in-text (w ∷ ws) = cond (eqb w 48) (replicate 24 2) (w ∷ []) ++ in-text ws
 
-abbrev said-in : List Row → ℕ → Option (List ℕ)
+abbrev pub said-in : List Row → ℕ → Option (List ℕ)
 said-in [] l = None
 said-in (r ∷ rs) l = cond (eqb l (r .letter)) (Some (in-text (r .widths))) (said-in rs l)
 
@@ -93,3 +95,11 @@ Scanned None at out out′ None = Unit {0}
 Scanned None at out out′ (Some end) = ⊥
 Scanned (Some t) at out out′ None = ⊥
 Scanned (Some t) at out out′ (Some end) = (out′ ≡ laid at t out) × (end ≡ at + length t) × (end ≤ length out)
+
+-- wherever these bytes stand, and whatever follows them, they are read as one command that ends where they end
+abbrev pub One-command : Result (List ℕ) Expected → Type 0
+One-command (Err e) = Unit {0}
+One-command (Ok []) = Unit {0}
+One-command (Ok (l ∷ t)) =
+    (before rest : List ℕ) →
+    (m : Meaning) × (reading (before ++ (l ∷ t ++ rest)) (length before) ≡ Some (Ok (record { meaning = m; next = length before + length (l ∷ t) })))

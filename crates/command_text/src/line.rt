@@ -4,7 +4,7 @@ ghost use mathlib.Core.List.{map};
 ghost use Prim.Native.Nat.{_+_, _≤_};
 ghost use lib.ListN.{length};
 ghost use Rattle.command.specs.Table.{total};
-ghost use Rattle.command_text.specs.Lines.{Scanned, bytes-in, ends, line-bytes, operand-bytes, packet-of, size-of};
+ghost use Rattle.command_text.specs.Lines.{One-command, Scanned, bytes-in, ends, line-bytes, operand-bytes, packet-of, size-of};
 use crate::widths::Width;
 use crate::widths::pack;
 use crate::widths::widths;
@@ -30,6 +30,7 @@ pub struct Packet {
 pub fn encode_line(text: &[u8]) -> Result<Packet, Expected>
     ensures value { λ r. ⌜ packet-of r ≡ line-bytes (now (text .entry)) ⌝ }
     ensures within { λ r. ⌜ size-of r ≤ 52 ⌝ }
+    ensures back { λ r. ⌜ One-command (packet-of r) ⌝ }
 {
     let mut bytes = [0; LONGEST_COMMAND];
     let [letter, rest @ ..] = skip_blanks(text) else {

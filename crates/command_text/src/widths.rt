@@ -8,7 +8,7 @@ ghost use Rattle.command_text.specs.Lines.{Packed, bytes-in, said};
 use lines::put_text;
 
 #[derive(Clone, Copy)]
-pub enum Width {
+pub(crate) enum Width {
     Byte,
     Pair,
     Quad,
@@ -16,7 +16,7 @@ pub enum Width {
 }
 
 // The widths of the operands behind a letter; the limits of a curtailment are said one by one.
-pub fn widths(letter: u8) -> Option<&'static [Width]>
+pub(crate) fn widths(letter: u8) -> Option<&'static [Width]>
     ensures { λ r. ⌜ mapped (λ x. map bytes-in (x .now)) r ≡ said letter ⌝ }
 {
     match letter {
@@ -82,7 +82,7 @@ static CURTAIL: [Width; 27] = [
 ];
 
 // Writes a number that fits its width, and answers the place behind it.
-pub fn pack(out: &mut [u8], at: usize, width: Width, value: u64) -> Option<usize>
+pub(crate) fn pack(out: &mut [u8], at: usize, width: Width, value: u64) -> Option<usize>
     requires { ⌜ at + bytes-in width ≤ length (now out) ⌝ }
     ensures { λ r. ⌜ Packed (bytes-in width) value at (now (out .entry)) (now (out .exit)) r ⌝ }
 {

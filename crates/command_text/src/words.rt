@@ -18,7 +18,7 @@ fn is_digit(b: u8) -> bool
 }
 
 // What stands behind the blanks at the front.
-pub fn skip_blanks(text: &[u8]) -> &[u8]
+pub(crate) fn skip_blanks(text: &[u8]) -> &[u8]
     ensures { λ r. ⌜ now r ≡ past-blanks (now (text .entry)) ⌝ }
 {
     for i in 0..text.len() {
@@ -38,7 +38,7 @@ fn append(value: u64, b: u8) -> Option<u64>
 }
 
 // The number in decimal at the front, and what stands behind its digits; none without a digit or past 64 bits.
-pub fn number(text: &[u8]) -> Option<(u64, &[u8])>
+pub(crate) fn number(text: &[u8]) -> Option<(u64, &[u8])>
     ensures { λ r. ⌜ Number (now (text .entry)) r ⌝ }
 {
     if text.is_empty() || !is_digit(text[0]) {

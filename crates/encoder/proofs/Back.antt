@@ -1,16 +1,16 @@
 -- Reading gives back what was written.
-use mathlib.Core.Path.{_≡_, refl, ap, sym, subst, _∙_}
-use mathlib.Core.Bool.{Bool, true, false, cond}
-use mathlib.Core.List.{List, [], _∷_, _++_, append-assoc, append-nil}
+use mathlib.Core.Path.{_≡_, refl, ap, sym, _∙_}
+use mathlib.Core.Bool.{cond}
+use mathlib.Core.List.{List, [], _∷_, _++_, append-assoc}
 use Prim.Native.Nat.{ℕ, zero, suc, _+_, _*_, _/_, _%_, _^_, _<_, _≤_}
-use native.Mathlib.Nat.{pow-succ', mod-eq-of-lt, mod-one, add-zero, div-one, one-le-pow, le-of-suc-le-suc, zero-lt-suc}
+use native.Mathlib.Nat.{pow-succ', mod-eq-of-lt, mod-one, add-zero, div-one, one-le-pow, le-of-suc-le-suc}
 use native.Mathlib.Numerals.{add-one}
 use native.Mathlib.Omega.{arith}
-use borrow.Author.Tests.{le-leb, lt-leb}
+use borrow.Author.Tests.{le-leb}
 use lib.Dec.{leb}
 use lib.Arith.{mod-mul}
-use lib.ListN.{length, getD, take, drop, length-append}
-use Rattle.std.specs.declared.option.Option.the-variants.{Some, None}
+use lib.ListN.{length, getD, drop, length-append}
+use Rattle.std.specs.declared.option.Option.the-variants.{Some}
 use Rattle.std.specs.declared.result.Result.{Result}
 use Rattle.std.specs.declared.result.Result.the-variants.{Ok, Err}
 use Rattle.std.proofs.shelf.Lists.{getD-drop, getD-append-add, drop-drop, drop-at, take-at}
@@ -20,7 +20,7 @@ use Rattle.command.specs.Table.{Row, byte, letter-of, row-of, number-at, part, 
 use Rattle.command.specs.Meaning.{Meaning, adds, withdraws, opens, bids, seals, awards, cancels, transfers, gives-back, curtails, invoices, pays, draws, pays-out, moves-day}
 use Rattle.command.specs.Reading.{Read, reading, from-place, by-letter, whole}
 use Rattle.command.proofs.Onward.{reads}
-use Rattle.encoder.specs.Encoding.{Fit, Fitting, Reads-back, big-endian, encoding, operands-of, limits-of, packed, widths-of}
+use Rattle.encoder.specs.Encoding.{Fit, Fitting, Reads-back, big-endian, encoding, operand-bytes, packed}
 
 big-endian-first : (w n : ℕ) → big-endian (suc w) n ≡ n / 256 ^ w % 256 ∷ big-endian w n
 big-endian-first zero n = ap (λ x. x % 256 ∷ []) (sym (div-one n))
@@ -85,7 +85,7 @@ row-back r ns rest m says f l =
     whole-is s (1 + total (r .widths)) _ m room ((λ i. r .says (λ k. e k i) bs) ∙ says bs)
 
 -- what stands behind other bytes is read as it would be alone
-placed : (before s : List ℕ) (r : Result Read Unreadable) → 0 < length s → by-letter (getD s 0 0) s ≡ r → reading (before ++ s) (length before) ≡ Some (from-place (length before) r)
+pub placed : (before s : List ℕ) (r : Result Read Unreadable) → 0 < length s → by-letter (getD s 0 0) s ≡ r → reading (before ++ s) (length before) ≡ Some (from-place (length before) r)
 placed before s r h e =
     let first = ap (λ k. getD (before ++ s) k 0) (sym (add-zero (length before))) ∙ getD-append-add before s 0 0 in
     let room : length before < length (before ++ s) = simp length-append (omega arith) in
@@ -95,12 +95,9 @@ placed before s r h e =
 at-front : (m : Meaning) (l : ℕ) (t : List ℕ) → ((rest : List ℕ) → by-letter l (l ∷ (t ++ rest)) ≡ Ok (record { meaning = m; bytes = length (l ∷ t) })) → Reads-back m (l ∷ t)
 at-front m l t f before rest = placed before (l ∷ (t ++ rest)) _ (omega arith) (f rest)
 
-abbrev tail-of : Meaning → List ℕ
-tail-of m = packed (widths-of (letter-of m)) (operands-of m) ++ limits-of m
-
-encoded-back : (m : Meaning) → ((rest : List ℕ) → by-letter (letter-of m) (letter-of m ∷ (tail-of m ++ rest)) ≡ got (length (letter-of m ∷ tail-of m)) m) → Reads-back m (encoding m)
+encoded-back : (m : Meaning) → ((rest : List ℕ) → by-letter (letter-of m) (letter-of m ∷ (operand-bytes m ++ rest)) ≡ got (length (letter-of m ∷ operand-bytes m)) m) → Reads-back m (encoding m)
 unfolding encoding
-encoded-back m f = at-front m (letter-of m) (tail-of m) f
+encoded-back m f = at-front m (letter-of m) (operand-bytes m) f
 
 -- a curtailment gives its numbers back, and its limits
 curtails-back : (from to first : ℕ) (limits rest : List ℕ) → Fit (1 ∷ 1 ∷ 1 ∷ []) (from ∷ to ∷ first ∷ []) → length limits ≡ 48 → whole (row-of (byte "C")) (byte "C" ∷ (packed (1 ∷ 1 ∷ 1 ∷ []) (from ∷ to ∷ first ∷ []) ++ (limits ++ rest))) ≡ got (suc (suc (suc (suc (length limits))))) (curtails from to first limits)
@@ -126,7 +123,7 @@ reads-back (awards a) f = encoded-back (awards a) (λ rest. row-back (row-of (by
 reads-back (cancels a) f = encoded-back (cancels a) (λ rest. row-back (row-of (byte "X")) (a ∷ []) rest _ (λ bs. refl) (f .0) (omega arith))
 reads-back (transfers giver taker a first hours mw) f = encoded-back (transfers giver taker a first hours mw) (λ rest. row-back (row-of (byte "T")) (giver ∷ taker ∷ a ∷ first ∷ hours ∷ mw ∷ []) rest _ (λ bs. refl) (f .0) (omega arith))
 reads-back (gives-back p out into mw) f = encoded-back (gives-back p out into mw) (λ rest. row-back (row-of (byte "R")) (p ∷ out ∷ into ∷ mw ∷ []) rest _ (λ bs. refl) (f .0) (omega arith))
-reads-back (curtails from to first limits) f = encoded-back (curtails from to first limits) (λ rest. curtails-back from to first limits rest (f .0) (f .1))
+reads-back (curtails from to first limits) f = encoded-back (curtails from to first limits) (λ rest. curtails-back from to first limits rest (f .0) (omega (arith, f .1)))
 reads-back (invoices p) f = encoded-back (invoices p) (λ rest. row-back (row-of (byte "I")) (p ∷ []) rest _ (λ bs. refl) (f .0) (omega arith))
 reads-back (pays p sum) f = encoded-back (pays p sum) (λ rest. row-back (row-of (byte "M")) (p ∷ sum ∷ []) rest _ (λ bs. refl) (f .0) (omega arith))
 reads-back (draws p) f = encoded-back (draws p) (λ rest. row-back (row-of (byte "K")) (p ∷ []) rest _ (λ bs. refl) (f .0) (omega arith))

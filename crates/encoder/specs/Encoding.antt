@@ -6,7 +6,7 @@ use lib.ListN.{length}
 use Rattle.std.specs.declared.option.Option.the-variants.{Some}
 use Rattle.std.specs.declared.result.Result.the-variants.{Ok}
 use Rattle.command.specs.Meaning.{Meaning, adds, withdraws, opens, bids, seals, awards, cancels, transfers, gives-back, curtails, invoices, pays, draws, pays-out, moves-day}
-use Rattle.command.specs.Table.{letter-of, row-of}
+use Rattle.command.specs.Table.{letter-of, row-of, total}
 use Rattle.command.specs.Reading.{reading}
 use Rattle.lines.specs.Page.{laid}
 
@@ -66,8 +66,11 @@ packed (w ∷ ws) (n ∷ ns) = big-endian w n ++ packed ws ns
 abbrev pub widths-of : ℕ → List ℕ
 widths-of l = row-of l .widths
 
+abbrev pub operand-bytes : Meaning → List ℕ
+operand-bytes m = packed (widths-of (letter-of m)) (operands-of m) ++ limits-of m
+
 unfoldable pub encoding : Meaning → List ℕ
-encoding m = letter-of m ∷ (packed (widths-of (letter-of m)) (operands-of m) ++ limits-of m)
+encoding m = letter-of m ∷ operand-bytes m
 
 -- each number fits its width
 abbrev pub Fit : List ℕ → List ℕ → Type 0
@@ -75,26 +78,9 @@ Fit ws [] = Unit {0}
 Fit [] (n ∷ ns) = ⊥
 Fit (w ∷ ws) (n ∷ ns) = (n < 256 ^ w) × Fit ws ns
 
-abbrev full : Meaning → Type 0
-full (adds p kind sum last) = Unit {0}
-full (withdraws p sum) = Unit {0}
-full (opens from to first hours capacity) = Unit {0}
-full (bids p a price mw) = Unit {0}
-full (seals a) = Unit {0}
-full (awards a) = Unit {0}
-full (cancels a) = Unit {0}
-full (transfers giver taker a first hours mw) = Unit {0}
-full (gives-back p out into mw) = Unit {0}
-full (curtails from to first limits) = length limits ≡ 48
-full (invoices p) = Unit {0}
-full (pays p sum) = Unit {0}
-full (draws p) = Unit {0}
-full (pays-out p) = Unit {0}
-full (moves-day day) = Unit {0}
-
--- each operand fits its width
+-- each operand fits its width, the limits of a curtailment too
 abbrev pub Fitting : Meaning → Type 0
-Fitting m = Fit (widths-of (letter-of m)) (operands-of m) × full m
+Fitting m = Fit (widths-of (letter-of m)) (operands-of m) × (length (operand-bytes m) ≡ total (widths-of (letter-of m)))
 
 -- wherever these bytes stand, and whatever follows them, they are read as this command
 abbrev pub Reads-back : Meaning → List ℕ → Type 0

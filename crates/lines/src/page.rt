@@ -17,7 +17,7 @@ pub fn put_text(page: &mut [u8], at: usize, text: &[u8]) -> usize
 }
 
 // Writes a number in decimal, with no leading zeros.
-pub fn put_number(page: &mut [u8], at: usize, n: u64) -> usize
+fn put_number(page: &mut [u8], at: usize, n: u64) -> usize
     requires { ⌜ at + length (decimal n) ≤ length (now page) ⌝ }
     ensures after { λ _. ⌜ now (page .exit) ≡ laid at (decimal n) (now (page .entry)) ⌝ }
     ensures value { λ r. ⌜ r ≡ at + length (decimal n) ⌝ }
@@ -39,7 +39,7 @@ fn put_spaced(page: &mut [u8], at: usize, n: u64) -> usize
 }
 
 // Writes each number after one space.
-pub fn put_numbers(page: &mut [u8], at: usize, numbers: &[u64]) -> usize
+pub(crate) fn put_numbers(page: &mut [u8], at: usize, numbers: &[u64]) -> usize
     requires { ⌜ at + length (spaced (now numbers)) ≤ length (now page) ⌝ }
     ensures after { λ _. ⌜ now (page .exit) ≡ laid at (spaced (now (numbers .entry))) (now (page .entry)) ⌝ }
     ensures value { λ r. ⌜ r ≡ at + length (spaced (now (numbers .entry))) ⌝ }

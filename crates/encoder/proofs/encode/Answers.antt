@@ -1,8 +1,8 @@
 -- Each command is written in one, two or three parts; what is written is its encoding.
 use borrow.Author.Needs.{needs}
-use mathlib.Core.Path.{_≡_, refl, ap, sym}
+use mathlib.Core.Path.{refl, ap}
 use native.Mathlib.Omega.{arith}
-use Rattle.encoder.specs.Encoding.{encoding, Fitting}
+use Rattle.encoder.specs.Encoding.{encoding}
 use Rattle.command.specs.Meaning.{meaning-of, adds, withdraws, opens, bids, seals, awards, cancels, transfers, gives-back, curtails, invoices, pays, draws, pays-out, moves-day}
 use Rattle.encoder.proofs.Written.{in-one, in-two, in-three}
 use Rattle.encoder.proofs.encode.Needs as need

@@ -1,7 +1,6 @@
-use borrow.Author.Needs.{needs}
-use mathlib.Core.Path.{sym, ap, _∙_}
+use mathlib.Core.Path.{sym, _∙_}
 use native.Mathlib.Omega.{arith}
-use Rattle.std.proofs.shelf.Lists.{take-rest, drop-all, at-drop-all}
+use Rattle.std.proofs.shelf.Lists.{take-rest, at-drop-all}
 use Rattle.command_text.specs.Words.{past-blanks}
 use Rattle.command_text.proofs.Fronts.{blank-step, blank-stop}
 use Rattle.command_text.proofs.words.skip_blanks.Needs as need

@@ -1,7 +1,7 @@
 use borrow.Author.Needs.{needs}
 use mathlib.Core.List.{[], _∷_, _++_}
 use native.Mathlib.Omega.{arith}
-use lib.ListN.{length, length-append}
+use lib.ListN.{length-append}
 use Rattle.lines.specs.Lines.{line}
 use Rattle.lines.specs.Page.{spaced}
 use Rattle.lines.proofs.Lay.{laid-next, length-line}
