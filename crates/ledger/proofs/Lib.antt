@@ -2,3 +2,4 @@ pub mod Sheets
 pub mod Kept
 pub mod Loads
 pub mod Sounds
+pub mod RightsKept

@@ -4,7 +4,7 @@ use mathlib.Core.Path.{_≡_}
 use mathlib.Core.Bool.{Bool, false, cond, _&&_}
 use Prim.Native.Nat.{ℕ, _+_, _*_, _<_, _≤_}
 use lib.Dec.{leb, ltb}
-use lib.ListN.{getD}
+use lib.ListN.{getD, length}
 use Rattle.roll.specs.Sums.{sum-of}
 use Rattle.account.specs.declared.accounts.Account.{Account}
 use Rattle.rights.specs.Holdings.{mw-of, no-hour, row-at}
@@ -35,13 +35,22 @@ waits-in h a x = cond (delivers h x) (held-mw a (x .returned)) 0
 abbrev pub waiting : ℕ → ℕ → Ledger → ℕ
 waiting h a l = sum-of (waits-in h a) (l .auctions)
 
--- of each auction and hour, what is held and what waits is at most 5,000 MW; of an auction that is not awarded nothing is;
--- what waits in an auction is at most 5,000 MW, and left auctions of its own direction
+-- the MW of an auction in an hour, held and waiting
+abbrev pub in-hour : ℕ → ℕ → Ledger → ℕ
+in-hour h a l = held-mw a (getD (l .rights) h no-hour) + waiting h a l
+
+-- rights may wait in an auction if they are of an awarded one of the same direction
+abbrev pub may-enter : Auction → Auction → Bool
+may-enter x y = is-awarded (x .stage) && same-way (x .direction) (y .direction)
+
+-- there are 192 hours; of each auction and hour, what is held and what waits is at most 5,000 MW; of an auction that is not awarded
+-- nothing is; what waits in an auction is part of its capacity, and left auctions that it may come from
 pub record Sound-rights (l : Ledger) : Type 0 where
-  pub most : (h a : ℕ) → held-mw a (getD (l .rights) h no-hour) + waiting h a l ≤ 5000
-  pub unsold : (h a : ℕ) → is-awarded (place a l .stage) ≡ false → held-mw a (getD (l .rights) h no-hour) + waiting h a l ≡ 0
-  pub returned : (a : ℕ) → hour-mw (place a l .returned) ≤ 5000
-  pub ways : (a b : ℕ) → same-way (place a l .direction) (place b l .direction) ≡ false → held-mw a (place b l .returned) ≡ 0
+  pub hours : length (l .rights) ≡ 192
+  pub most : (h a : ℕ) → in-hour h a l ≤ 5000
+  pub unsold : (h a : ℕ) → is-awarded (place a l .stage) ≡ false → in-hour h a l ≡ 0
+  pub returned : (a : ℕ) → hour-mw (place a l .returned) ≤ place a l .capacity
+  pub ways : (a b : ℕ) → may-enter (place a l) (place b l) ≡ false → held-mw a (place b l .returned) ≡ 0
 
 -- how many auctions are awarded
 abbrev pub awarded-one : Auction → ℕ

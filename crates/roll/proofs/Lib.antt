@@ -5,6 +5,7 @@ pub mod InPlace
 pub mod Maxima
 pub mod Moves
 pub mod Orders
+pub mod Puts
 pub mod Rows
 pub mod Spending
 pub mod Steps
