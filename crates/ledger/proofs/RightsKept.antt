@@ -15,9 +15,13 @@ use Rattle.roll.proofs.Sums.{sum-none, sum-set-le}
 use Rattle.auction.specs.Bids.{with-bid}
 use Rattle.auction.specs.declared.bids.Bid.{Bid}
 use Rattle.auction.specs.declared.products.Product.{Product}
-use Rattle.rights.specs.Holdings.{holds-through, mw-of, no-hour, nothing}
+use Rattle.rights.specs.Holdings.{handed, holds, holds-through, mw-of, no-hour, nothing, with-row}
+use Rattle.rights.specs.Returns.{restored, taken, waiting-more}
 use Rattle.rights.specs.declared.hours.Hour.{Hour}
-use Rattle.rights.proofs.Amounts.{nothing-at}
+use Rattle.rights.proofs.Amounts.{awarded-here, awarded-other, handed-at, nothing-at, restored-at, taken-at, taken-here, waits-all, waits-here, waits-other}
+use Rattle.rights.proofs.Claims.{curtailed-at}
+use Rattle.rights.proofs.Curtailments.{size-stays}
+use Rattle.rights.proofs.SpanSums.{over-at, over-at-down, over-at-up, over-length, over-out}
 use Rattle.ledger.specs.declared.auctions.Auction.{Auction}
 use Rattle.ledger.specs.declared.auctions.Direction.{Direction}
 use Rattle.ledger.specs.declared.auctions.Stage.{Stage}
@@ -26,8 +30,9 @@ use Rattle.ledger.specs.declared.ledgers.Ledger.{Ledger}
 use Rattle.ledger.specs.Auctions.{is-awarded, is-open, is-sealed, new-auction, no-auction, same-way, sheet-of}
 use Rattle.ledger.specs.Bounds.{Sound-rights, delivers, held-mw, hour-mw, in-hour, may-enter, place, waiting, waits-in}
 use Rattle.ledger.specs.Ledgers.{auction-at, new-ledger}
+use Rattle.ledger.specs.Moves.{prices-towards, rights-curtailed, rights-returned, rights-transferred}
 use Rattle.ledger.specs.Sound.{Sound-auctions}
-use Rattle.ledger.specs.Stages.{auction-sealed, bid-placed, opened-with, sealed-at, with-sheet}
+use Rattle.ledger.specs.Stages.{auction-awarded, auction-cancelled, auction-sealed, awarded-as, bid-placed, cancelled, opened-with, outcome, sealed-at, with-sheet}
 
 -- A NEW LEDGER
 none-held : (n h a : ℕ) → held-mw a (getD (replicate n nothing) h no-hour) ≡ 0
@@ -87,3 +92,107 @@ module _ (l m : Ledger) (i : ℕ) (x : Auction) (e : m .auctions ≡ set (l .auc
     | inl same ↦ rw (e, same, getD-set-same (l .auctions) i x no-auction inside) new
     | inr other ↦ rw (e, getD-set-other (l .auctions) i a x no-auction other) (old a other)
   ]
+
+  module _ (s : Sound-rights l) (before : is-awarded (place i l .stage) ≡ false) where
+    put : length (m .rights) ≡ 192 → ((h a : ℕ) → a ≢ i → in-hour h a m ≤ in-hour h a l) →
+        ((h : ℕ) → (in-hour h i m ≤ 5000) × (is-awarded (x .stage) ≡ false → in-hour h i m ≡ 0)) →
+        hour-mw (x .returned) ≤ x .capacity → ((a : ℕ) → may-enter (place a l) x ≡ false → held-mw a (x .returned) ≡ 0) → Sound-rights m
+    put n others here within enters = record {
+      hours = n;
+      most = λ h. at-each (λ a _. in-hour h a m ≤ 5000) (here h .0) (λ a ne. omega (arith, others h a ne, s .most h a));
+      unsold = λ h. at-each (λ a y. is-awarded (y .stage) ≡ false → in-hour h a m ≡ 0) (here h .1) (λ a ne out. omega (arith, others h a ne, s .unsold h a out));
+      returned = at-each (λ a y. hour-mw (y .returned) ≤ y .capacity) within (λ a ne. s .returned a);
+      ways = λ a b. at-each (λ b z. may-enter (place a m) z ≡ false → held-mw a (z .returned) ≡ 0) (comes a) (leaves a) b;
+    }
+      where
+        unmoved : (y : Auction) → may-enter (place i l) y ≡ false
+        unmoved y = and-left _ _ before
+
+        comes : (a : ℕ) → may-enter (place a m) x ≡ false → held-mw a (x .returned) ≡ 0
+        comes = at-each (λ a y. may-enter y x ≡ false → held-mw a (x .returned) ≡ 0) (λ _. enters i (unmoved x)) (λ a ne. enters a)
+
+        leaves : (a b : ℕ) → b ≢ i → may-enter (place a m) (place b l) ≡ false → held-mw a (place b l .returned) ≡ 0
+        leaves a b ne = at-each (λ a y. may-enter y (place b l) ≡ false → held-mw a (place b l .returned) ≡ 0) (λ _. s .ways i b (unmoved (place b l))) (λ a other. s .ways a b) a
+
+    -- no auction has more MW in any hour
+    put-fewer : length (m .rights) ≡ 192 → ((h a : ℕ) → in-hour h a m ≤ in-hour h a l) → hour-mw (x .returned) ≤ x .capacity → ((a : ℕ) → may-enter (place a l) x ≡ false → held-mw a (x .returned) ≡ 0) → Sound-rights m
+    put-fewer n fewer = put n (λ h a _. fewer h a) (λ h. let none = s .unsold h i before in (omega (arith, fewer h i), λ _. omega (arith, fewer h i)))
+
+    -- the rights stay, and what waits in the auction does
+    put-same : m .rights ≡ l .rights → ((h a : ℕ) → waits-in h a x ≤ waits-in h a (place i l)) → hour-mw (x .returned) ≤ x .capacity → ((a : ℕ) → may-enter (place a l) x ≡ false → held-mw a (x .returned) ≡ 0) → Sound-rights m
+    put-same r waits = put-fewer (ap length r ∙ s .hours) (λ h a.
+        omega (
+          arith,
+          ap (λ rs. held-mw a (getD rs h no-hour)) r,
+          ap (sum-of (waits-in h a)) e,
+          sum-set-le (waits-in h a) (l .auctions) i x no-auction 0 (omega (arith, waits h a)),
+        ))
+
+-- OPEN: the auction that was not opened had nothing
+pub rights-open : (d : Direction) (first : ℕ) (product : Product) (capacity : ℕ) (l : Ledger) → Sound-auctions l → Sound-rights l → ((a : ℕ) → l .opened ≤ a → a < 8 → getD (l .auctions) a no-auction ≡ new-auction (record { from = 0; to = 0 }) 0 (record { hours = 0 }) 0) → l .opened < 8 → Sound-rights (opened-with (new-auction d first product capacity) l)
+rights-open d first product capacity l h s unopened room =
+    let x : Auction = new-auction d first product capacity in
+    put-same l (opened-with x l) (l .opened) x refl (omega (arith, h .rows)) s (ap (λ y. is-awarded (y .stage)) (unopened (l .opened) (omega arith) room)) refl
+    (λ hour a. omega (arith, none-waits hour a x refl)) (omega arith) (λ a _. nothing-at a)
+
+-- an auction that is there has its place
+placed : (l : Ledger) (a : ℕ) → Sound-auctions l → 1 ≤ a → a ≤ l .opened → a - 1 < length (l .auctions)
+placed l a h from to = omega (arith, h .rows, h .opened)
+
+-- BID and SEAL: other sheets, another stage
+pub rights-bid : (p a : ℕ) (b : Bid) (l : Ledger) → Sound-auctions l → Sound-rights l → 1 ≤ a → a ≤ l .opened → auction-at l a .stage ≡ Open → Sound-rights (bid-placed p a b l)
+rights-bid p a b l h s a1 a2 stage =
+    put-same l (bid-placed p a b l) (a - 1) (with-sheet p (with-bid b (sheet-of p (auction-at l a))) (auction-at l a)) refl (placed l a h a1 a2) s (ap is-awarded stage) refl
+    (λ hour c. omega arith) (s .returned (a - 1)) (λ c. s .ways c (a - 1))
+
+pub rights-seal : (a : ℕ) (limits : List ℕ) (l : Ledger) → Sound-auctions l → Sound-rights l → 1 ≤ a → a ≤ l .opened → auction-at l a .stage ≡ Open → Sound-rights (auction-sealed a limits l)
+rights-seal a limits l h s a1 a2 stage =
+    put-same l (auction-sealed a limits l) (a - 1) (sealed-at limits (auction-at l a)) refl (placed l a h a1 a2) s (ap is-awarded stage) refl
+    (λ hour c. omega arith) (s .returned (a - 1)) (λ c. s .ways c (a - 1))
+
+-- an auction's span of hours
+in-span : (h : ℕ) (x : Auction) → delivers h x ≡ true → (x .first ≤ h) × (h < x .first + x .product .hours)
+in-span h x e = let both = and-parts (leb (x .first) h) (ltb h (x .first + x .product .hours)) e in (leb-true _ _ (both .0), ltb-true _ _ (both .1))
+
+out-of-span : (h : ℕ) (x : Auction) → delivers h x ≡ false → (h < x .first) ⊎ (x .first + x .product .hours ≤ h)
+out-of-span h x e = elim (and-cases (leb (x .first) h) (ltb h (x .first + x .product .hours)) e) [ inl low ↦ inl (leb-false _ _ low) | inr high ↦ inr (ltb-false _ _ high) ]
+
+-- CANCEL: what waited is held again
+pub not-awarded : (stage : Stage) → (is-open stage || is-sealed stage) ≡ true → is-awarded stage ≡ false
+not-awarded Open h = refl
+not-awarded Sealed h = refl
+not-awarded (Awarded price) h = sym h
+not-awarded Cancelled h = refl
+
+pub rights-cancel : (a : ℕ) (l : Ledger) → Sound-auctions l → Sound-rights l → 1 ≤ a → a ≤ l .opened → (is-open (auction-at l a .stage) || is-sealed (auction-at l a .stage)) ≡ true → Sound-rights (auction-cancelled a l)
+rights-cancel a l h s a1 a2 stage =
+    put-fewer l (auction-cancelled a l) (a - 1) (cancelled x) refl inside s (not-awarded (x .stage) stage)
+    (over-length (restored (x .returned)) (x .first) (x .product .hours) (l .rights) ∙ s .hours) (λ hour b. omega (arith, held hour b, waits hour b)) (omega arith) (λ b _. nothing-at b)
+  where
+    x : Auction
+    x = auction-at l a
+
+    inside : a - 1 < length (l .auctions)
+    inside = placed l a h a1 a2
+
+    waits : (hour b : ℕ) → waiting hour b (auction-cancelled a l) + waits-in hour b x ≤ waiting hour b l
+    waits hour b = omega (arith, sum-put-in (waits-in hour b) (l .auctions) (a - 1) (cancelled x) no-auction inside, none-waits hour b (cancelled x) refl)
+
+    held : (hour b : ℕ) → held-mw b (getD (auction-cancelled a l .rights) hour no-hour) ≤ held-mw b (getD (l .rights) hour no-hour) + waits-in hour b x
+    held hour b = go (delivers hour x) refl
+      where
+        go : (t : Bool) → delivers hour x ≡ t → held-mw b (getD (auction-cancelled a l .rights) hour no-hour) ≤ held-mw b (getD (l .rights) hour no-hour) + cond t (held-mw b (x .returned)) 0
+        go true e = over-at-up (held-mw b) (restored (x .returned)) (held-mw b (x .returned)) (restored-at (x .returned) b) (x .first) (x .product .hours) (l .rights) no-hour hour
+        go false e = omega (arith, ap (held-mw b) (over-out (restored (x .returned)) (x .first) (x .product .hours) (l .rights) no-hour hour (out-of-span hour x e)))
+
+-- TRANSFER: nothing more of any auction
+pub rights-transfer : (giver taker a first hours mw : ℕ) (l : Ledger) → Sound-rights l → holds-through (a - 1) (giver - 1) mw first hours (l .rights) ≡ true → Sound-rights (rights-transferred giver taker a first hours mw l)
+rights-transfer giver taker a first hours mw l s ok =
+    let hand : Hour → Hour = handed (a - 1) (giver - 1) (taker - 1) mw in
+    fewer-rights l (rights-transferred giver taker a first hours mw l) s refl (over-length hand first hours (l .rights) ∙ s .hours)
+    (λ h b. over-at (held-mw b) hand (holds (a - 1) (giver - 1) mw) 0 (handed-at (a - 1) (giver - 1) (taker - 1) mw b) first hours (l .rights) no-hour h ok)
+
+-- CURTAILMENT: nothing more of any auction
+pub rights-curtail : (d : Direction) (first : ℕ) (limits : List ℕ) (l : Ledger) → Sound-rights l → Sound-rights (rights-curtailed d first limits l)
+rights-curtail d first limits l s =
+    fewer-rights l (rights-curtailed d first limits l) s refl (size-stays (prices-towards d l) first limits (l .rights) 24 ∙ s .hours) (curtailed-at (prices-towards d l) first limits (l .rights) 24)
