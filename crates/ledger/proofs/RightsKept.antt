@@ -8,13 +8,15 @@ use native.Mathlib.Omega.{arith}
 use lib.Dec.{leb, ltb}
 use lib.ListN.{getD, length, replicate, set}
 use Rattle.std.proofs.shelf.Lists.{getD-set-same, getD-set-other}
-use Rattle.std.proofs.shelf.Tests.{and-cases, and-left, and-parts, both-ways, cases-eq, leb-false, leb-true, ltb-false, ltb-true}
+use Rattle.std.proofs.shelf.Tests.{and-cases, and-from, and-left, and-parts, both-ways, cases-eq, leb-false, leb-true, ltb-false, ltb-true, true≢false}
 use Rattle.roll.specs.Sums.{sum-of}
 use Rattle.roll.proofs.Puts.{sum-put-in}
-use Rattle.roll.proofs.Sums.{sum-none, sum-set-le}
+use Rattle.roll.proofs.Sums.{sum-map, sum-none, sum-set-le}
+use Rattle.auction.specs.Award.{award-at, kept-lists, price-of}
 use Rattle.auction.specs.Bids.{with-bid}
 use Rattle.auction.specs.declared.bids.Bid.{Bid}
 use Rattle.auction.specs.declared.products.Product.{Product}
+use Rattle.auction.proofs.Settled.{awards-fit}
 use Rattle.rights.specs.Holdings.{handed, holds, holds-through, mw-of, no-hour, nothing, with-row}
 use Rattle.rights.specs.Returns.{restored, taken, waiting-more}
 use Rattle.rights.specs.declared.hours.Hour.{Hour}
@@ -27,7 +29,7 @@ use Rattle.ledger.specs.declared.auctions.Direction.{Direction}
 use Rattle.ledger.specs.declared.auctions.Stage.{Stage}
 use Rattle.ledger.specs.declared.auctions.Stage.the-variants.{Open, Sealed, Awarded, Cancelled}
 use Rattle.ledger.specs.declared.ledgers.Ledger.{Ledger}
-use Rattle.ledger.specs.Auctions.{is-awarded, is-open, is-sealed, new-auction, no-auction, same-way, sheet-of}
+use Rattle.ledger.specs.Auctions.{is-awarded, is-open, is-sealed, new-auction, no-auction, same-way, sheet-of, with-returned}
 use Rattle.ledger.specs.Bounds.{Sound-rights, delivers, held-mw, hour-mw, in-hour, may-enter, place, waiting, waits-in}
 use Rattle.ledger.specs.Ledgers.{auction-at, new-ledger}
 use Rattle.ledger.specs.Moves.{prices-towards, rights-curtailed, rights-returned, rights-transferred}
@@ -196,3 +198,88 @@ rights-transfer giver taker a first hours mw l s ok =
 pub rights-curtail : (d : Direction) (first : ℕ) (limits : List ℕ) (l : Ledger) → Sound-rights l → Sound-rights (rights-curtailed d first limits l)
 rights-curtail d first limits l s =
     fewer-rights l (rights-curtailed d first limits l) s refl (size-stays (prices-towards d l) first limits (l .rights) 24 ∙ s .hours) (curtailed-at (prices-towards d l) first limits (l .rights) 24)
+
+-- RETURN: what leaves the holdings of an hour waits over that hour
+module _ (p out into mw : ℕ) (l : Ledger) (h : Sound-auctions l) (s : Sound-rights l) (b1 : 1 ≤ into) (b2 : into ≤ l .opened) (stage : auction-at l into .stage ≡ Open) (span : auction-at l into .first + auction-at l into .product .hours ≤ 192) (ok : holds-through (out - 1) (p - 1) mw (auction-at l into .first) (auction-at l into .product .hours) (l .rights) ≡ true) where
+  abbrev entered : Auction
+  entered = auction-at l into
+
+  abbrev returning : Auction
+  returning = with-returned (waiting-more (out - 1) (p - 1) mw (entered .returned)) (entered .capacity + mw) entered
+
+  abbrev after : Ledger
+  after = rights-returned p out into mw l
+
+  held-no-more : (hour a : ℕ) → held-mw a (getD (after .rights) hour no-hour) ≤ held-mw a (getD (l .rights) hour no-hour)
+  held-no-more hour a =
+      over-at (held-mw a) (taken (out - 1) (p - 1) mw) (holds (out - 1) (p - 1) mw) 0 (λ x. taken-at (out - 1) (p - 1) mw x a) (entered .first) (entered .product .hours) (l .rights) no-hour hour ok
+
+  -- at most c more wait in the auction entered
+  wait-more : (hour a c : ℕ) → waits-in hour a returning ≤ waits-in hour a entered + c → waiting hour a after ≤ waiting hour a l + c
+  wait-more hour a c le = sum-set-le (waits-in hour a) (l .auctions) (into - 1) returning no-auction c le
+
+  other-auctions : (hour a : ℕ) → a ≢ out - 1 → in-hour hour a after ≤ in-hour hour a l
+  other-auctions hour a ne = omega (arith, held-no-more hour a, wait-more hour a 0 (same (delivers hour entered)))
+    where
+      same : (t : Bool) → cond t (held-mw a (returning .returned)) 0 ≤ cond t (held-mw a (entered .returned)) 0 + 0
+      same true = omega (arith, waits-other (out - 1) (p - 1) mw (entered .returned) a ne)
+      same false = omega arith
+
+  auction-left : (hour : ℕ) → in-hour hour (out - 1) after ≤ in-hour hour (out - 1) l
+  auction-left hour = go (delivers hour entered) refl
+    where
+      go : (t : Bool) → delivers hour entered ≡ t → in-hour hour (out - 1) after ≤ in-hour hour (out - 1) l
+      go false e = omega (arith, held-no-more hour (out - 1), wait-more hour (out - 1) 0 (rw e (omega arith)))
+      go true e =
+          let inside = in-span hour entered e in
+          omega (
+            arith,
+            over-at-down (held-mw (out - 1)) (taken (out - 1) (p - 1) mw) (holds (out - 1) (p - 1) mw) mw (taken-here (out - 1) (p - 1) mw) (entered .first) (entered .product .hours) (l .rights) no-hour hour (inside .0) (inside .1) (omega (arith, s .hours)) ok,
+            wait-more hour (out - 1) mw (rw e (waits-here (out - 1) (p - 1) mw (entered .returned))),
+          )
+
+  pub rights-return : is-awarded (auction-at l out .stage) ≡ true → same-way (auction-at l out .direction) (auction-at l into .direction) ≡ true → Sound-rights (rights-returned p out into mw l)
+  rights-return sold way =
+      put-fewer l after (into - 1) returning refl (placed l into h b1 b2) s (ap is-awarded stage)
+      (over-length (taken (out - 1) (p - 1) mw) (entered .first) (entered .product .hours) (l .rights) ∙ s .hours)
+      (λ hour a. elim (cases-eq a (out - 1)) as (λ _. in-hour hour a after ≤ in-hour hour a l) [
+        | inl same ↦ subst (λ b. in-hour hour b after ≤ in-hour hour b l) (sym same) (auction-left hour)
+        | inr other ↦ other-auctions hour a other
+      ])
+      (omega (arith, s .returned (into - 1), waits-all (out - 1) (p - 1) mw (entered .returned)))
+      (λ a shut. elim (cases-eq a (out - 1)) [
+        | inl same ↦ absurd (both-ways (may-enter (place (out - 1) l) entered) (subst (λ b. may-enter (place b l) entered ≡ false) same shut) (and-from _ _ sold way))
+        | inr other ↦ waits-other (out - 1) (p - 1) mw (entered .returned) a other ∙ s .ways a (into - 1) shut
+      ])
+
+-- AWARD: of an auction of which nothing was held, at most its capacity comes into each hour
+pub award-within : (x : Auction) → mw-of (outcome x .mw) ≤ x .capacity
+award-within x =
+    let kept : List (List Bid) = kept-lists (x .sheets) in
+    omega (arith, awards-fit (x .capacity) kept, sum-map (λ mw. mw) (award-at (price-of (x .capacity) kept) (x .capacity) kept) kept)
+
+pub rights-award : (a : ℕ) (l : Ledger) → Sound-auctions l → Sound-rights l → 1 ≤ a → a ≤ l .opened → auction-at l a .stage ≡ Sealed → Sound-rights (auction-awarded a l)
+rights-award a l h s a1 a2 stage =
+    put l after (a - 1) (awarded-as x) refl (placed l a h a1 a2) s sealed
+    (over-length (with-row (a - 1) (outcome x .mw)) (x .first) (x .product .hours) (l .rights) ∙ s .hours)
+    (λ hour b ne. omega (arith, waits hour b, over-at-up (held-mw b) (with-row (a - 1) (outcome x .mw)) 0 (λ y. awarded-other (a - 1) (outcome x .mw) y b ne) (x .first) (x .product .hours) (l .rights) no-hour hour))
+    (λ hour. (omega (arith, here hour, s .unsold hour (a - 1) sealed, award-within x, capacity), λ t. absurd (true≢false t))) (omega arith) (λ b _. nothing-at b)
+  where
+    x : Auction
+    x = auction-at l a
+
+    after : Ledger
+    after = auction-awarded a l
+
+    sealed : is-awarded (x .stage) ≡ false
+    sealed = ap is-awarded stage
+
+    capacity : x .capacity ≤ 5000
+    capacity = h .each (a - 1) (omega (arith, h .opened)) .capacity
+
+    waits : (hour b : ℕ) → waiting hour b after ≤ waiting hour b l
+    waits hour b = omega (arith, sum-set-le (waits-in hour b) (l .auctions) (a - 1) (awarded-as x) no-auction 0 (omega (arith, none-waits hour b (awarded-as x) refl)))
+
+    here : (hour : ℕ) → in-hour hour (a - 1) after ≤ in-hour hour (a - 1) l + mw-of (outcome x .mw)
+    here hour =
+        omega (arith, waits hour (a - 1), over-at-up (held-mw (a - 1)) (with-row (a - 1) (outcome x .mw)) (mw-of (outcome x .mw)) (awarded-here (a - 1) (outcome x .mw)) (x .first) (x .product .hours) (l .rights) no-hour hour)
