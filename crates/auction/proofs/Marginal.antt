@@ -6,16 +6,17 @@ use mathlib.Core.Logic.{_⊎_, inl, inr}
 use Prim.Native.Nat.{ℕ, suc, _+_, _≤_, _<_, max}
 use native.Mathlib.Omega.{arith}
 use lib.Dec.{leb}
-use lib.ListN.{length, take}
+use lib.ListN.{getD, length, take}
+use Rattle.std.specs.shelf.Lists.{All}
 use Rattle.std.proofs.shelf.Lists.{take-all}
 use Rattle.std.proofs.shelf.Ways.{tells}
 use Rattle.std.proofs.shelf.Tests.{cases-lt, leb-true}
 use Rattle.roll.specs.Sums.{sum-of, most-of}
 use Rattle.roll.proofs.Sums.{sum-append, sum-mono, sum-map}
-use Rattle.roll.proofs.Maxima.{most-append, most-map}
+use Rattle.roll.proofs.Maxima.{most-all, most-append, most-map, most-under}
 use Rattle.auction.specs.declared.bids.Bid.{Bid}
 use Rattle.auction.specs.declared.sheets.Sheet.{Sheet}
-use Rattle.auction.specs.Bids.{mw-all, kept-of}
+use Rattle.auction.specs.Bids.{Lawful, mw-all, kept-of}
 use Rattle.auction.specs.Charge.{mw-from}
 use Rattle.auction.specs.Award.{kept-lists, total-mw, total-from, reaching-price, price-of, mw-above, Clears}
 use Rattle.auction.proofs.Worst.{Priced, Next, next-price, priced-most, most-attained, Attained, from-all, from-zero, from-falls}
@@ -105,3 +106,9 @@ price-found capacity sheets found i over e all =
     e ∙ (ap (most-of (λ s. most-of (reaching-price capacity (kept-lists sheets)) (kept-of s))) (take-all i sheets all)
     ∙ (sym (most-map (λ bs. most-of (reaching-price capacity (kept-lists sheets)) bs) kept-of sheets)
     ∙ sym (price-top capacity (kept-lists sheets) (omega (arith, total-zero (kept-lists sheets))))))
+
+-- the price is at most the highest of a lawful bid
+pub price-lawful : (capacity : ℕ) (kept : List (List Bid)) → ((i : ℕ) → i < length kept → All Lawful (getD kept i [])) → price-of capacity kept ≤ 1000000
+price-lawful capacity kept ok =
+    let t : top capacity kept ≤ 1000000 = most-under (λ bs. most-of (reaching-price capacity kept) bs) 1000000 kept [] (λ i lt. most-all Lawful (reaching-price capacity kept) 1000000 (getD kept i []) (λ b h. grind (arith, tells)) (ok i lt)) in
+    grind (arith, tells)

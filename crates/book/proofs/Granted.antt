@@ -15,7 +15,7 @@ use Rattle.ledger.specs.declared.auctions.Stage.the-variants.{Open, Sealed, Awa
 use Rattle.ledger.specs.declared.ledgers.Ledger.{Ledger}
 use Rattle.book.specs.declared.refusals.Refusal.{Refusal}
 use Rattle.book.specs.Moments.{Moment}
-use Rattle.book.specs.Steps.{Leaves, bad-mw, bad-sum, not-opened, stranger}
+use Rattle.book.specs.Steps.{Leaves, bad-hours, bad-mw, not-opened, stranger}
 use Rattle.book.specs.Tables.{Row, answers, is-granted, passes}
 
 -- every test failed
@@ -67,6 +67,9 @@ an-auction a l h = (grind (arith, tells), grind (arith, tells))
 pub good-mw : (mw : ℕ) → bad-mw mw ≡ false → (1 ≤ mw) × (mw ≤ 5000)
 good-mw mw h = (grind (arith, tells), grind (arith, tells))
 
+pub good-span : (first hours : ℕ) → bad-hours first hours ≡ false → (1 ≤ hours) × (first + hours ≤ 192)
+good-span first hours h = (grind (arith, tells), grind (arith, tells))
+
 pub both-pass : (b c : Bool) → (b || c) ≡ false → (b ≡ false) × (c ≡ false)
 both-pass true c h = absurd (let z : _≡_ {A = ℕ} 0 1 = cc in omega arith)
 both-pass false c h = (refl, h)
@@ -82,3 +85,9 @@ stage-sealed Open h = absurd (let z : _≡_ {A = ℕ} 0 1 = cc in omega arith)
 stage-sealed Sealed h = refl
 stage-sealed (Awarded price) h = absurd (let z : _≡_ {A = ℕ} 0 1 = cc in omega arith)
 stage-sealed Cancelled h = absurd (let z : _≡_ {A = ℕ} 0 1 = cc in omega arith)
+
+pub not-awarded : (s : Stage) → not (is-open s || is-sealed s) ≡ false → cond {A = ℕ} (is-awarded s) 1 0 ≡ 0
+not-awarded Open h = refl
+not-awarded Sealed h = refl
+not-awarded (Awarded price) h = absurd (let z : _≡_ {A = ℕ} 0 1 = cc in omega arith)
+not-awarded Cancelled h = refl

@@ -3,6 +3,7 @@ use mathlib.Core.Path.{_≡_, refl, sym, subst}
 use mathlib.Core.Bool.{Bool, true, false, cond}
 use Prim.Native.Nat.{ℕ, _+_, _<_, _≤_}
 use native.Mathlib.Omega.{arith}
+use lib.Dec.{ltb}
 use Rattle.std.specs.declared.result.Result.{Result}
 use Rattle.std.proofs.shelf.Ways.{tells}
 use Rattle.ledger.specs.Limits.{all-limits}
@@ -14,9 +15,9 @@ use Rattle.book.specs.declared.refusals.Refusal.{Refusal}
 use Rattle.book.specs.Calls.{Call, Reply, add-collateral, withdraw, open-auction, place-bid, seal-auction, award-auction, cancel-auction, transfer-rights, return-rights, curtail-rights, send-invoice, pay-invoices, draw-overdue, pay-balance, move-day}
 use Rattle.book.specs.Law.{History, begun, called}
 use Rattle.book.specs.Moments.{Moment}
-use Rattle.book.specs.Steps.{Step, bid-of, direction-of, draw-table, drawn}
+use Rattle.book.specs.Steps.{Step, bad-mw, bid-of, direction-of, draw-table, drawn, not-opened}
 use Rattle.book.specs.Tables.{passes}
-use Rattle.book.proofs.Granted.{a-participant, an-auction, both-pass, good-mw, leaves-keeps, stage-open, stage-sealed}
+use Rattle.book.proofs.Granted.{a-participant, an-auction, both-pass, good-mw, good-span, leaves-keeps, not-awarded, stage-open, stage-sealed}
 
 either : (P : Ledger → Type 0) (b : Bool) (x y : Ledger) → P x → P y → P (cond b x y)
 either P true x y h k = h
@@ -27,13 +28,15 @@ sound-step (add-collateral p kind sum last) m r m′ h s = subst Sound (sym (s .
 sound-step (withdraw p sum) m r m′ h s = subst Sound (sym (s .ledger)) h
 sound-step (open-auction from to first hours capacity) m r m′ h s =
     leaves-keeps Sound _ _ _ m r m′ s h (λ t.
+    let span = good-span first hours (t .1 .0) in
     let size = good-mw capacity (t .1 .1 .0) in
-    sound-open (direction-of from to) first (record { hours = hours }) capacity (m .ledger) h (grind (arith, tells)) (size .0) (size .1))
+    let full = t .1 .1 .1 .0 in
+    sound-open (direction-of from to) first (record { hours = hours }) capacity (m .ledger) h (grind (arith, tells)) (size .0) (size .1) (span .1))
 sound-step (place-bid p a price mw) m r m′ h s =
     leaves-keeps Sound _ _ _ m r m′ s h (λ t.
     let who = a-participant p (t .0) in
     let there = an-auction a (m .ledger) (t .1 .0) in
-    let amount = both-pass _ _ (t .1 .1 .1 .0) in
+    let amount = both-pass (bad-mw mw) (ltb 1000000 price) (t .1 .1 .1 .0) in
     let size = good-mw mw (amount .0) in
     let low : price ≤ 1000000 = (let e = amount .1 in grind (arith, tells)) in
     let full = t .1 .1 .1 .1 .0 in
@@ -42,22 +45,22 @@ sound-step (place-bid p a price mw) m r m′ h s =
 sound-step (seal-auction a) m r m′ h s =
     leaves-keeps Sound _ _ _ m r m′ s h (λ t.
     let there = an-auction a (m .ledger) (t .0) in
-    sound-seal a (all-limits (m .ledger) (m .cover)) (m .ledger) h (there .0) (there .1) refl)
+    sound-seal a (all-limits (m .ledger) (m .cover)) (m .ledger) h (there .0) (there .1) (stage-open _ (t .1 .0)) refl)
 sound-step (award-auction a) m r m′ h s =
     leaves-keeps Sound _ _ _ m r m′ s h (λ t.
     let there = an-auction a (m .ledger) (t .0) in
     sound-award a (m .ledger) h (there .0) (there .1) (stage-sealed _ (t .1 .0)))
 sound-step (cancel-auction a) m r m′ h s =
-    leaves-keeps Sound _ _ _ m r m′ s h (λ t. let there = an-auction a (m .ledger) (t .0) in sound-cancel a (m .ledger) h (there .0) (there .1))
+    leaves-keeps Sound _ _ _ m r m′ s h (λ t. let there = an-auction a (m .ledger) (t .0) in sound-cancel a (m .ledger) h (there .0) (there .1) (not-awarded _ (t .1 .0)))
 sound-step (transfer-rights giver taker a first hours mw) m r m′ h s = leaves-keeps Sound _ _ _ m r m′ s h (λ t. sound-transfer giver taker a first hours mw (m .ledger) h)
 sound-step (return-rights p out into mw) m r m′ h s =
     leaves-keeps Sound _ _ _ m r m′ s h (λ t.
-    let opened = both-pass _ _ (t .1 .0) in
+    let opened = both-pass (not-opened out (m .ledger)) (not-opened into (m .ledger)) (t .1 .0) in
     let there = an-auction into (m .ledger) (opened .1) in
     let room = t .1 .1 .1 .1 .1 .1 .1 .0 in
     sound-return p out into mw (m .ledger) h (there .0) (there .1) (grind (arith, tells)))
 sound-step (curtail-rights from to first limits) m r m′ h s = leaves-keeps Sound _ _ _ m r m′ s h (λ t. sound-curtail (direction-of from to) first limits (m .ledger) h)
-sound-step (send-invoice p) m r m′ h s = leaves-keeps Sound _ _ _ m r m′ s h (λ t. sound-invoice p (m .ledger) h)
+sound-step (send-invoice p) m r m′ h s = leaves-keeps Sound _ _ _ m r m′ s h (λ t. sound-invoice p (m .ledger) h (λ pos. let full = t .1 .1 .0 in grind (arith, tells)))
 sound-step (pay-invoices p sum) m r m′ h s = leaves-keeps Sound _ _ _ m r m′ s h (λ t. sound-payment p sum (m .ledger) h)
 sound-step (draw-overdue p) m r m′ h s =
     subst Sound (sym (s .ledger)) (either Sound (passes (draw-table p m)) (account-paid p (drawn m p) (m .ledger)) (m .ledger) (sound-payment p (drawn m p) (m .ledger) h) h)

@@ -1,5 +1,6 @@
 pub mod Sheets
 pub mod Kept
 pub mod Loads
+pub mod Owing
 pub mod Sounds
 pub mod RightsKept

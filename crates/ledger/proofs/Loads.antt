@@ -30,7 +30,7 @@ use Rattle.ledger.specs.declared.auctions.Auction.{Auction}
 use Rattle.ledger.specs.declared.auctions.Direction.{Direction}
 use Rattle.ledger.specs.declared.auctions.Stage.the-variants.{Sealed}
 use Rattle.ledger.specs.declared.ledgers.Ledger.{Ledger}
-use Rattle.ledger.specs.Auctions.{held-in, new-auction, no-auction, no-sheet, sheet-of, with-returned}
+use Rattle.ledger.specs.Auctions.{held-in, new-auction, no-auction, no-sheet, sheet-of, unopened-auction, with-returned}
 use Rattle.ledger.specs.Ledgers.{account-at, auction-at, new-ledger, no-account, with-auction}
 use Rattle.ledger.specs.Limits.{Cover, all-limits, credit-limit, held-sums, overdue-by, owes}
 use Rattle.ledger.specs.Moves.{account-invoiced, account-paid, account-paid-out, prices-towards, rights-curtailed, rights-returned}
@@ -168,4 +168,4 @@ pub owes-new : (p : ℕ) → owes new-ledger p ≡ 0
 owes-new p = none-owed 12 (p - 1)
 
 pub held-new : (p : ℕ) → held-sums new-ledger p ≡ 0
-held-new p = sum-none (held-in p) (new-auction (record { from = 0; to = 0 }) 0 (record { hours = 0 }) 0) (none-held 12 (p - 1)) 8
+held-new p = sum-none (held-in p) unopened-auction (none-held 12 (p - 1)) 8

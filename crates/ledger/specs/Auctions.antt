@@ -7,6 +7,7 @@ use lib.Dec.{eqb}
 use lib.ListN.{getD, replicate}
 use Rattle.std.specs.declared.option.Option.{Option}
 use Rattle.std.specs.declared.option.Option.the-variants.{Some, None}
+use Rattle.roll.specs.Sums.{sum-of}
 use Rattle.auction.specs.Bids.{no-bids}
 use Rattle.auction.specs.declared.products.Product.{Product}
 use Rattle.auction.specs.declared.sheets.Sheet.{Sheet}
@@ -72,6 +73,14 @@ new-auction d first product capacity = record {
   sheets = replicate 12 no-bids;
   returned = nothing;
 }
+
+-- an auction before its opening
+abbrev pub unopened-auction : Auction
+unopened-auction = new-auction (record { from = 0; to = 0 }) 0 (record { hours = 0 }) 0
+
+-- how many bids stand in an auction
+abbrev pub placed-in : Auction → ℕ
+placed-in x = sum-of (λ s. s .count) (x .sheets)
 
 -- a participant's sheet in an auction, and its held sum there
 abbrev pub sheet-of : ℕ → Auction → Sheet

@@ -7,19 +7,16 @@ use lib.Dec.{leb, ltb}
 use lib.ListN.{getD, length}
 use Rattle.roll.specs.Sums.{sum-of}
 use Rattle.account.specs.declared.accounts.Account.{Account}
-use Rattle.rights.specs.Holdings.{mw-of, no-hour, row-at}
+use Rattle.rights.specs.Holdings.{mw-of, row-at}
+use Rattle.rights.specs.Totals.{all-mw, hour-mw, mw-at}
 use Rattle.rights.specs.declared.hours.Hour.{Hour}
 use Rattle.ledger.specs.declared.auctions.Auction.{Auction}
 use Rattle.ledger.specs.declared.ledgers.Ledger.{Ledger}
 use Rattle.ledger.specs.Auctions.{is-awarded, no-auction, same-way}
 
--- the MW of an auction in an hour, or waiting in an auction
+-- the MW of an auction in an hour, or of those that wait in an auction
 abbrev pub held-mw : ℕ → Hour → ℕ
 held-mw a hour = mw-of (row-at a hour)
-
--- all MW of an hour, or waiting in an auction
-abbrev pub hour-mw : Hour → ℕ
-hour-mw hour = sum-of mw-of (hour .rows)
 
 abbrev pub place : ℕ → Ledger → Auction
 place a l = getD (l .auctions) a no-auction
@@ -37,7 +34,7 @@ waiting h a l = sum-of (waits-in h a) (l .auctions)
 
 -- the MW of an auction in an hour, held and waiting
 abbrev pub in-hour : ℕ → ℕ → Ledger → ℕ
-in-hour h a l = held-mw a (getD (l .rights) h no-hour) + waiting h a l
+in-hour h a l = mw-at a h (l .rights) + waiting h a l
 
 -- rights may wait in an auction if they are of an awarded one of the same direction
 abbrev pub may-enter : Auction → Auction → Bool
@@ -68,7 +65,7 @@ abbrev pub waiting-hours : Auction → ℕ
 waiting-hours x = x .product .hours * hour-mw (x .returned)
 
 abbrev pub mw-hours : Ledger → ℕ
-mw-hours l = sum-of hour-mw (l .rights) + sum-of waiting-hours (l .auctions)
+mw-hours l = all-mw (l .rights) + sum-of waiting-hours (l .auctions)
 
 -- what is claimed, and what could be at the highest price, is at most 960,000,000,000 cents for each award and as much for its returns
 pub record Sound-money (l : Ledger) : Type 0 where

@@ -9,7 +9,7 @@ use Rattle.rights.specs.Holdings.{nothing}
 use Rattle.rights.specs.declared.hours.Hour.{Hour}
 use Rattle.ledger.specs.declared.auctions.Auction.{Auction}
 use Rattle.ledger.specs.declared.ledgers.Ledger.{Ledger}
-use Rattle.ledger.specs.Auctions.{no-auction, new-auction, sheet-of}
+use Rattle.ledger.specs.Auctions.{no-auction, sheet-of, unopened-auction}
 
 abbrev pub no-account : Account
 no-account = record { dues = 0; claims = 0; payout = 0; invoices = []; unpaid = 0 }
@@ -20,7 +20,7 @@ new-ledger = record {
   day = 0;
   receipts = 0;
   opened = 0;
-  auctions = replicate 8 (new-auction (record { from = 0; to = 0 }) 0 (record { hours = 0 }) 0);
+  auctions = replicate 8 unopened-auction;
   rights = replicate 192 nothing;
   accounts = replicate 12 new-account;
 }

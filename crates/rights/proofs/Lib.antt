@@ -4,6 +4,6 @@ pub mod Pairs
 pub mod Lost
 pub mod Tight
 pub mod Curtailments
-pub mod SpanSums
+pub mod Totals
+pub mod Earned
 pub mod Amounts
-pub mod Claims

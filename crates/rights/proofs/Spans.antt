@@ -1,14 +1,16 @@
--- Changes and tests in a span of hours, for any records: the steps of a loop from place k on.
+-- Changes and tests in a span, for any records: the steps of a loop from place k on, and what changes count for.
 use mathlib.Core.Path.{_≡_, refl, sym, ap, _∙_}
 use mathlib.Core.Bool.{Bool, true, false, _&&_}
+use mathlib.Core.Logic.{_⊎_, inl, inr}
 use mathlib.Core.List.{List, [], _∷_}
-use Prim.Native.Nat.{ℕ, zero, suc, _+_, _-_, _<_, _≤_}
+use Prim.Native.Nat.{ℕ, zero, suc, _+_, _-_, _*_, _<_, _≤_}
 use native.Mathlib.Omega.{arith}
-use native.Mathlib.Nat.{le-of-suc-le-suc}
+use native.Mathlib.Nat.{add-mul, le-of-suc-le-suc}
 use native.Mathlib.Numerals.{add-one}
 use lib.ListN.{length, getD, take, drop, set}
 use Rattle.std.proofs.shelf.Lists.{at-drop-all, at-drop-more, take-append-drop}
 use Rattle.std.proofs.shelf.Tests.{and-parts}
+use Rattle.roll.specs.Sums.{sum-of}
 use Rattle.rights.specs.Spans.{all-of, part, over}
 
 module _ {X : Type 0} (f : X → X) where
@@ -73,3 +75,59 @@ part-at ok zero (suc n) zero (x ∷ xs) d lo hi l e = and-parts _ _ e .0
 part-at ok zero (suc n) (suc h) (x ∷ xs) d lo hi l e = part-at ok zero n h xs d (omega arith) (omega arith) (omega arith) (and-parts _ _ e .1)
 part-at ok (suc k) (suc n) zero (x ∷ xs) d lo hi l e = absurd (omega arith)
 part-at ok (suc k) (suc n) (suc h) (x ∷ xs) d lo hi l e = part-at ok k (suc n) h xs d (omega arith) (omega arith) (omega arith) e
+
+-- numbers of records where each of a span that passes is changed: by at most c more
+module _ {X : Type 0} (f : X → ℕ) (g : X → X) (ok : X → Bool) (c : ℕ) (rises : (x : X) → ok x ≡ true → f (g x) ≤ f x + c) where
+  pub over-up : (k n : ℕ) (xs : List X) (d : X) (j : ℕ) → all-of ok (part k n xs) ≡ true → f (getD (over k n g xs) j d) ≤ f (getD xs j d) + c
+  over-up zero zero xs d j h = omega arith
+  over-up zero (suc n) [] d j h = omega arith
+  over-up zero (suc n) (x ∷ xs) d zero h = rises x (and-parts _ _ h .0)
+  over-up zero (suc n) (x ∷ xs) d (suc j) h = over-up zero n xs d j (and-parts _ _ h .1)
+  over-up (suc k) zero [] d j h = omega arith
+  over-up (suc k) (suc n) [] d j h = omega arith
+  over-up (suc k) n (x ∷ xs) d zero h = omega arith
+  over-up (suc k) n (x ∷ xs) d (suc j) h = over-up k n xs d j h
+
+  pub over-sum-up : (k n : ℕ) (xs : List X) → all-of ok (part k n xs) ≡ true → sum-of f (over k n g xs) ≤ sum-of f xs + n * c
+  over-sum-up zero zero xs h = omega arith
+  over-sum-up zero (suc n) [] h = omega arith
+  over-sum-up zero (suc n) (x ∷ xs) h =
+      omega (arith, rises x (and-parts (ok x) (all-of ok (take n xs)) h .0), over-sum-up zero n xs (and-parts (ok x) (all-of ok (take n xs)) h .1), add-mul n 1 c, ap (λ m. m * c) (add-one n))
+  over-sum-up (suc k) zero [] h = omega arith
+  over-sum-up (suc k) (suc n) [] h = omega arith
+  over-sum-up (suc k) n (x ∷ xs) h = omega (arith, over-sum-up k n xs h)
+
+-- by at least c less
+module _ {X : Type 0} (f : X → ℕ) (g : X → X) (ok : X → Bool) (c : ℕ) (falls : (x : X) → ok x ≡ true → f (g x) + c ≤ f x) where
+  pub over-down : (k n : ℕ) (xs : List X) (d : X) (j : ℕ) → k ≤ j → j < k + n → j < length xs → all-of ok (part k n xs) ≡ true → f (getD (over k n g xs) j d) + c ≤ f (getD xs j d)
+  over-down zero zero xs d j lo hi l h = absurd (omega arith)
+  over-down zero (suc n) [] d j lo hi l h = absurd (omega arith)
+  over-down zero (suc n) (x ∷ xs) d zero lo hi l h = falls x (and-parts _ _ h .0)
+  over-down zero (suc n) (x ∷ xs) d (suc j) lo hi l h = over-down zero n xs d j (omega arith) (omega arith) (omega arith) (and-parts _ _ h .1)
+  over-down (suc k) n [] d j lo hi l h = absurd (omega arith)
+  over-down (suc k) n (x ∷ xs) d zero lo hi l h = absurd (omega arith)
+  over-down (suc k) n (x ∷ xs) d (suc j) lo hi l h = over-down k n xs d j (omega arith) (omega arith) (omega arith) h
+
+  pub over-sum-down : (k n : ℕ) (xs : List X) → k + n ≤ length xs → all-of ok (part k n xs) ≡ true → sum-of f (over k n g xs) + n * c ≤ sum-of f xs
+  over-sum-down zero zero xs l h = omega arith
+  over-sum-down zero (suc n) [] l h = absurd (omega arith)
+  over-sum-down zero (suc n) (x ∷ xs) l h =
+      omega (arith, falls x (and-parts (ok x) (all-of ok (take n xs)) h .0), over-sum-down zero n xs (omega arith) (and-parts (ok x) (all-of ok (take n xs)) h .1), add-mul n 1 c, ap (λ m. m * c) (add-one n))
+  over-sum-down (suc k) n [] l h = absurd (omega arith)
+  over-sum-down (suc k) n (x ∷ xs) l h = omega (arith, over-sum-down k n xs (omega arith) h)
+
+-- where nothing is asked of them all pass
+pub all-any : {X : Type 0} (xs : List X) → all-of (λ _. true) xs ≡ true
+all-any [] = refl
+all-any (x ∷ xs) = all-any xs
+
+-- records outside the span stay
+pub over-out : {X : Type 0} (g : X → X) (k n : ℕ) (xs : List X) (d : X) (j : ℕ) → (j < k) ⊎ (k + n ≤ j) → getD (over k n g xs) j d ≡ getD xs j d
+over-out g zero zero xs d j o = refl
+over-out g zero (suc n) [] d j o = refl
+over-out g zero (suc n) (x ∷ xs) d zero o = absurd (elim o [ inl a ↦ omega arith | inr b ↦ omega arith ])
+over-out g zero (suc n) (x ∷ xs) d (suc j) o = over-out g zero n xs d j (inr (elim o [ inl a ↦ omega arith | inr b ↦ omega arith ]))
+over-out g (suc k) zero [] d j o = refl
+over-out g (suc k) (suc n) [] d j o = refl
+over-out g (suc k) n (x ∷ xs) d zero o = refl
+over-out g (suc k) n (x ∷ xs) d (suc j) o = over-out g k n xs d j (elim o [ inl a ↦ inl (omega arith) | inr b ↦ inr (omega arith) ])

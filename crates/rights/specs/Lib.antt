@@ -3,5 +3,6 @@ pub mod Holdings
 pub mod Returns
 pub mod Cuts
 pub mod Limited
+pub mod Totals
 pub mod Bounds
 pub mod Worked

@@ -1,11 +1,11 @@
 pub mod Behind
+pub mod Changes
 pub mod Clear
-pub mod Insertions
 pub mod InPlace
+pub mod Insertions
 pub mod Maxima
 pub mod Moves
 pub mod Orders
-pub mod Puts
 pub mod Rows
 pub mod Spending
 pub mod Steps

@@ -8,6 +8,7 @@ use native.Mathlib.Omega.{arith}
 use native.Mathlib.Nat.{le-of-suc-le-suc}
 use native.Mathlib.Numerals.{add-one}
 use lib.ListN.{length, getD, take, set, replicate}
+use Rattle.std.specs.shelf.Lists.{All}
 use Rattle.std.proofs.shelf.Tests.{cases-eq}
 use Rattle.roll.specs.Sums.{most-of, largest-to}
 
@@ -72,3 +73,12 @@ beyond-fails ok (suc n) m lt le = go (ok (suc n)) refl lt (cases-eq m (suc n)) (
     go true e lt h ih = absurd (omega arith)
     go false e lt (inl same) ih = rw same e
     go false e lt (inr ne) ih = ih lt (omega arith)
+
+-- a maximum of what is at most m at each place
+pub most-under : {X : Type 0} (f : X → ℕ) (m : ℕ) (xs : List X) (d : X) → ((k : ℕ) → k < length xs → f (getD xs k d) ≤ m) → most-of f xs ≤ m
+most-under f m [] d h = omega arith
+most-under f m (x ∷ xs) d h = let ih = most-under f m xs d (λ k lt. h (suc k) (omega arith)) in omega (arith, h 0 (omega arith))
+
+pub most-all : {X : Type 0} (P : X → Type 0) (f : X → ℕ) (m : ℕ) (xs : List X) → ((x : X) → P x → f x ≤ m) → All P xs → most-of f xs ≤ m
+most-all P f m [] h all = omega arith
+most-all P f m (x ∷ xs) h all = let ih = most-all P f m xs h (all .1) in omega (arith, h x (all .0))

@@ -7,6 +7,7 @@ use native.Mathlib.Nat.{le-of-suc-le-suc}
 use native.Mathlib.Numerals.{add-one}
 use lib.ListN.{length, getD, set, take}
 use Rattle.roll.specs.Rows.{each-with}
+use Rattle.roll.specs.Sums.{sum-of}
 
 module _ {V X : Type 0} (f : V → X → X) where
   pub with-length : (vs : List V) (xs : List X) → length (each-with f vs xs) ≡ length xs
@@ -47,6 +48,20 @@ module _ {V X : Type 0} (f : V → X → X) where
   with-le g b step (v ∷ vs) [] e d k = omega arith
   with-le g b step (v ∷ vs) (x ∷ xs) e d zero = step v x
   with-le g b step (v ∷ vs) (x ∷ xs) e d (suc k) = with-le g b step vs xs e d k
+
+  -- a sum of what no value changes
+  pub with-sum : (g : X → ℕ) → ((v : V) (x : X) → g (f v x) ≡ g x) → (vs : List V) (xs : List X) → sum-of g (each-with f vs xs) ≡ sum-of g xs
+  with-sum g same [] xs = refl
+  with-sum g same (v ∷ vs) [] = refl
+  with-sum g same (v ∷ vs) (x ∷ xs) = omega (arith, same v x, with-sum g same vs xs)
+
+  -- what holds of each record below n becomes what holds of it once it is changed
+  pub with-under : (P Q : X → Type 0) (n : ℕ) (vs : List V) (xs : List X) (e : V) (d : X) → ((k : ℕ) → k < n → P (getD xs k d)) → ((x : X) → P x → Q x) → ((k : ℕ) → k < n → (x : X) → P x → Q (f (getD vs k e) x)) → (k : ℕ) → k < n → Q (getD (each-with f vs xs) k d)
+  with-under P Q n [] xs e d h weak step k lt = weak (getD xs k d) (h k lt)
+  with-under P Q n (v ∷ vs) [] e d h weak step k lt = weak d (h k lt)
+  with-under P Q n (v ∷ vs) (x ∷ xs) e d h weak step zero lt = step 0 lt x (h 0 lt)
+  with-under P Q n (v ∷ vs) (x ∷ xs) e d h weak step (suc k) lt =
+      with-under P Q (pred n) vs xs e d (λ j m. h (suc j) (omega arith)) weak (λ j m. step (suc j) (omega arith)) k (omega arith)
 
 -- what holds of the record at each place below n, and of the one put in, holds then too
 pub set-under : {X : Type 0} (P : X → Type 0) (n : ℕ) (xs : List X) (i : ℕ) (y d : X) → ((k : ℕ) → k < n → P (getD xs k d)) → (i < n → P y) → (k : ℕ) → k < n → P (getD (set xs i y) k d)

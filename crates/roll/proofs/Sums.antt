@@ -59,3 +59,8 @@ pub sum-set-le : {X : Type 0} (f : X → ℕ) (xs : List X) (i : ℕ) (y d : X) 
 sum-set-le f [] i y d b h = omega arith
 sum-set-le f (x ∷ xs) zero y d b h = omega arith
 sum-set-le f (x ∷ xs) (suc i) y d b h = omega (arith, sum-set-le f xs i y d b h)
+
+pub sum-set-ge : {X : Type 0} (f : X → ℕ) (xs : List X) (i : ℕ) (y d : X) (b : ℕ) → i < length xs → f (getD xs i d) + b ≤ f y → sum-of f xs + b ≤ sum-of f (set xs i y)
+sum-set-ge f [] i y d b h le = absurd (omega arith)
+sum-set-ge f (x ∷ xs) zero y d b h le = omega arith
+sum-set-ge f (x ∷ xs) (suc i) y d b h le = omega (arith, sum-set-ge f xs i y d b (le-of-suc-le-suc h) le)
