@@ -4,3 +4,4 @@ pub mod Loads
 pub mod Owing
 pub mod Sounds
 pub mod RightsKept
+pub mod MoneyKept
