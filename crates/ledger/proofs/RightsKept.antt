@@ -129,7 +129,7 @@ module _ (l m : Ledger) (i : ℕ) (x : Auction) (e : m .auctions ≡ set (l .auc
         (λ h a. omega (arith, ap (mw-at a h) r, ap (sum-of (waits-in h a)) e, sum-up (waits-in h a) no-auction (none-waits h a no-auction refl) (l .auctions) i x 0 (omega (arith, waits h a))))
 
 -- an auction that is there has its place
-placed : (l : Ledger) (a : ℕ) → Sound-auctions l → 1 ≤ a → a ≤ l .opened → a - 1 < length (l .auctions)
+pub placed : (l : Ledger) (a : ℕ) → Sound-auctions l → 1 ≤ a → a ≤ l .opened → a - 1 < length (l .auctions)
 placed l a h from to = omega (arith, h .rows, h .opened)
 
 -- before its opening an auction had nothing
