@@ -5,3 +5,4 @@ pub mod Owing
 pub mod Sounds
 pub mod RightsKept
 pub mod MoneyKept
+pub mod Within

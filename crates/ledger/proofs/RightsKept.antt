@@ -17,7 +17,7 @@ use Rattle.auction.specs.Bids.{with-bid}
 use Rattle.auction.specs.declared.bids.Bid.{Bid}
 use Rattle.auction.specs.declared.products.Product.{Product}
 use Rattle.auction.proofs.Settled.{awards-fit}
-use Rattle.rights.specs.Holdings.{handed, holds-through, mw-of, nothing, with-row}
+use Rattle.rights.specs.Holdings.{handed, holds-through, mw-of, with-row}
 use Rattle.rights.specs.Returns.{restored, taken, waiting-more}
 use Rattle.rights.specs.Totals.{hour-mw, mw-at}
 use Rattle.rights.proofs.Amounts.{nothing-at, nothing-in, over-length}
@@ -37,7 +37,7 @@ use Rattle.ledger.specs.Sound.{Sound-auctions}
 use Rattle.ledger.specs.Stages.{auction-awarded, auction-cancelled, auction-sealed, awarded-as, bid-placed, cancelled, opened-with, outcome, sealed-at, with-sheet}
 
 -- nothing waits of an auction of which nothing was returned
-none-waits : (h a : ℕ) (x : Auction) → held-mw a (x .returned) ≡ 0 → waits-in h a x ≡ 0
+pub none-waits : (h a : ℕ) (x : Auction) → held-mw a (x .returned) ≡ 0 → waits-in h a x ≡ 0
 none-waits h a x none = go (delivers h x)
   where
     go : (b : Bool) → cond b (held-mw a (x .returned)) 0 ≡ 0

@@ -2,7 +2,7 @@
 -- Auctions go by place here: 0 for number 1.
 use mathlib.Core.Path.{_≡_}
 use mathlib.Core.Bool.{Bool, false, cond, _&&_}
-use Prim.Native.Nat.{ℕ, _+_, _*_, _<_, _≤_}
+use Prim.Native.Nat.{ℕ, _+_, _*_, _≤_}
 use lib.Dec.{leb, ltb}
 use lib.ListN.{getD, length}
 use Rattle.roll.specs.Sums.{sum-of}
