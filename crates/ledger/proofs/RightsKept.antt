@@ -194,15 +194,15 @@ out-of-span : (h : ℕ) (x : Auction) → delivers h x ≡ false → (h < x .fir
 out-of-span h x e = elim (and-cases (leb (x .first) h) (ltb h (x .first + x .product .hours)) e) [ inl low ↦ inl (leb-false _ _ low) | inr high ↦ inr (ltb-false _ _ high) ]
 
 -- what waited is held again
-pub not-awarded : (stage : Stage) → (is-open stage || is-sealed stage) ≡ true → is-awarded stage ≡ false
-not-awarded Open h = refl
-not-awarded Sealed h = refl
-not-awarded (Awarded price) h = sym h
-not-awarded Cancelled h = refl
+pub before-award : (stage : Stage) → (is-open stage || is-sealed stage) ≡ true → is-awarded stage ≡ false
+before-award Open h = refl
+before-award Sealed h = refl
+before-award (Awarded price) h = sym h
+before-award Cancelled h = refl
 
 pub rights-cancel : (a : ℕ) (l : Ledger) → Sound-auctions l → Sound-rights l → 1 ≤ a → a ≤ l .opened → (is-open (auction-at l a .stage) || is-sealed (auction-at l a .stage)) ≡ true → Sound-rights (auction-cancelled a l)
 rights-cancel a l h s a1 a2 stage =
-    put-fewer l (auction-cancelled a l) (a - 1) (cancelled x) refl (placed l a h a1 a2) s (not-awarded (x .stage) stage)
+    put-fewer l (auction-cancelled a l) (a - 1) (cancelled x) refl (placed l a h a1 a2) s (before-award (x .stage) stage)
     (over-length (restored (x .returned)) (x .first) (x .product .hours) (l .rights) ∙ s .hours) (λ hour b. omega (arith, held hour b, waits hour b)) (omega arith) (λ b _. nothing-at b)
   where
     x : Auction
