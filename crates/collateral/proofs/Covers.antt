@@ -9,10 +9,10 @@ use lib.Dec.{leb}
 use lib.ListN.{length, take, drop, getD, set}
 use Rattle.std.proofs.shelf.Lists.{getD-set-other, getD-set-same, set-getD, take-at}
 use Rattle.std.proofs.shelf.Tests.{and-from, and-parts, and-right, cases-bool, cases-lt, cond-false, cond-true, le-leb, le-ltb, leb-true, lt-ltb, ltb-true}
-use Rattle.roll.specs.Spending.{total}
+use Rattle.roll.specs.Sums.{sum-of}
 use Rattle.roll.proofs.Clear.{clear-clear, clear-falls, put-clear, put-past, spent-clear-at-most, spent-clear-no-rise, spent-clear-there}
 use Rattle.collateral.specs.Cover.{Added, Took, in-range, participant}
-use Rattle.collateral.specs.Guarantees.{at-sum, earlier, folder-cover, folder-of, guarantees-cover, guarantees-taken, held-in, past-on, stored, sum-of, used, valid, with-folder, with-held}
+use Rattle.collateral.specs.Guarantees.{at-sum, earlier, folder-cover, folder-of, guarantees-cover, guarantees-taken, held-in, past-on, stored, sum-in, used, valid, with-folder, with-held}
 use Rattle.collateral.specs.declared.folder.Folder.{Folder}
 use Rattle.collateral.specs.declared.folder.Guarantee.{Guarantee}
 use Rattle.collateral.specs.declared.guarantees.Guarantees.{Guarantees}
@@ -29,32 +29,32 @@ module _ (f : Folder) where
   pub held-with : (gs : List Guarantee) → held-in (with-held gs f) ≡ gs
   held-with gs = take-at gs (drop (length gs) (f .places)) (length gs) refl
 
-  cover-held : (gs : List Guarantee) (d : ℕ) → folder-cover (with-held gs f) d ≡ total sum-of (valid d gs)
-  cover-held gs d = ap (λ hs. total sum-of (valid d hs)) (held-with gs)
+  cover-held : (gs : List Guarantee) (d : ℕ) → folder-cover (with-held gs f) d ≡ sum-of sum-in (valid d gs)
+  cover-held gs d = ap (λ hs. sum-of sum-in (valid d hs)) (held-with gs)
 
   pub cover-falls : (d e : ℕ) → d ≤ e → folder-cover f e ≤ folder-cover f d
-  cover-falls d e l = clear-falls sum-of (past-on d) (past-on e) (past-later d e l) (held-in f)
+  cover-falls d e l = clear-falls sum-in (past-on d) (past-on e) (past-later d e l) (held-in f)
 
   module _ (day sum : ℕ) where
     used-at-most : (d : ℕ) → folder-cover f d ≤ folder-cover (with-held (used day sum (held-in f)) f) d + sum
-    used-at-most d = omega (arith, cover-held (used day sum (held-in f)) d, spent-clear-at-most sum-of at-sum (λ g n. refl) (past-on day) sum (past-on d) (λ g n. refl) (past-nested day d) (held-in f))
+    used-at-most d = omega (arith, cover-held (used day sum (held-in f)) d, spent-clear-at-most sum-in at-sum (λ g n. refl) (past-on day) sum (past-on d) (λ g n. refl) (past-nested day d) (held-in f))
 
     used-no-rise : (d : ℕ) → folder-cover (with-held (used day sum (held-in f)) f) d ≤ folder-cover f d
-    used-no-rise d = omega (arith, cover-held (used day sum (held-in f)) d, spent-clear-no-rise sum-of at-sum (λ g n. refl) (past-on day) sum (past-on d) (λ g n. refl) (past-nested day d) (held-in f))
+    used-no-rise d = omega (arith, cover-held (used day sum (held-in f)) d, spent-clear-no-rise sum-in at-sum (λ g n. refl) (past-on day) sum (past-on d) (λ g n. refl) (past-nested day d) (held-in f))
 
     used-there : sum ≤ folder-cover f day → folder-cover (with-held (used day sum (held-in f)) f) day + sum ≡ folder-cover f day
-    used-there l = omega (arith, cover-held (used day sum (held-in f)) day, spent-clear-there sum-of at-sum (λ g n. refl) (past-on day) sum (λ g n. refl) (held-in f) l)
+    used-there l = omega (arith, cover-held (used day sum (held-in f)) day, spent-clear-there sum-in at-sum (λ g n. refl) (past-on day) sum (λ g n. refl) (held-in f) l)
 
   module _ (today : ℕ) (g : Guarantee) where
     stored-raised : (d : ℕ) → today ≤ d → d ≤ g .last → folder-cover (with-held (stored today g (held-in f)) f) d ≡ folder-cover f d + g .sum
     stored-raised d l h =
         let before : (y : Guarantee) → past-on d y ≡ true → earlier y g ≡ true = λ y e. le-leb (y .last) (g .last) (omega (arith, ltb-true (y .last) d e)) in
-        omega (arith, cover-held (stored today g (held-in f)) d, put-clear sum-of earlier g (past-on d) (le-ltb (g .last) d h) before (valid today (held-in f)), clear-clear sum-of (past-on today) (past-on d) (past-later today d l) (held-in f))
+        omega (arith, cover-held (stored today g (held-in f)) d, put-clear sum-in earlier g (past-on d) (le-ltb (g .last) d h) before (valid today (held-in f)), clear-clear sum-in (past-on today) (past-on d) (past-later today d l) (held-in f))
 
     stored-later : (d : ℕ) → today ≤ d → g .last < d → folder-cover (with-held (stored today g (held-in f)) f) d ≡ folder-cover f d
     stored-later d l h =
         let after : (y : Guarantee) → earlier y g ≡ true → past-on d y ≡ true = λ y e. lt-ltb (y .last) d (omega (arith, leb-true (y .last) (g .last) e)) in
-        omega (arith, cover-held (stored today g (held-in f)) d, put-past sum-of earlier g (past-on d) (lt-ltb (g .last) d h) after (valid today (held-in f)), clear-clear sum-of (past-on today) (past-on d) (past-later today d l) (held-in f))
+        omega (arith, cover-held (stored today g (held-in f)) d, put-past sum-in earlier g (past-on d) (lt-ltb (g .last) d h) after (valid today (held-in f)), clear-clear sum-in (past-on today) (past-on d) (past-later today d l) (held-in f))
 
 cond-at-most : (b : Bool) (m n s : ℕ) → m ≤ n + s → cond b m 0 ≤ cond b n 0 + s
 cond-at-most true m n s l = l

@@ -14,7 +14,7 @@ use Rattle.roll.proofs.Clear.{clear-ordered, ordered-spent-clear}
 use Rattle.roll.proofs.Orders.{ordered-drop, ordered-inserted}
 use Rattle.collateral.specs.Causes.{granted}
 use Rattle.collateral.specs.Cover.{in-range}
-use Rattle.collateral.specs.Guarantees.{at-sum, earlier, folder-cover, folder-of, guarantees-added, guarantees-taken, guarantees-verdict, held-in, no-folder, no-guarantees, past-on, stored, sum-of, used, valid, with-folder, with-held}
+use Rattle.collateral.specs.Guarantees.{at-sum, earlier, folder-cover, folder-of, guarantees-added, guarantees-taken, guarantees-verdict, held-in, no-folder, no-guarantees, past-on, stored, sum-in, used, valid, with-folder, with-held}
 use Rattle.collateral.specs.Runs.{Each-counts, In-order, Run, Runs-count, added, begun, took}
 use Rattle.collateral.specs.declared.folder.Folder.{Folder}
 use Rattle.collateral.specs.declared.folder.Guarantee.{Guarantee}
@@ -49,7 +49,7 @@ earlier-carries : (g h k : Guarantee) → earlier g h ≡ true → earlier h k �
 earlier-carries g h k a b = le-leb (g .last) (k .last) (omega (arith, leb-true (g .last) (h .last) a, leb-true (h .last) (k .last) b))
 
 order-used : (f : Folder) (day sum : ℕ) → Ordered earlier (held-in f) → Ordered earlier (held-in (with-held (used day sum (held-in f)) f))
-order-used f day sum h = subst (Ordered earlier) (sym (held-with f (used day sum (held-in f)))) (ordered-spent-clear sum-of at-sum (λ g n. refl) (past-on day) sum earlier (λ g k n. refl) (λ g k n. refl) (held-in f) h)
+order-used f day sum h = subst (Ordered earlier) (sym (held-with f (used day sum (held-in f)))) (ordered-spent-clear sum-in at-sum (λ g n. refl) (past-on day) sum earlier (λ g k n. refl) (λ g k n. refl) (held-in f) h)
 
 order-stored : (f : Folder) (today : ℕ) (g : Guarantee) → Ordered earlier (held-in f) → Ordered earlier (held-in (with-held (stored today g (held-in f)) f))
 order-stored f today g h =
@@ -78,7 +78,7 @@ order-kept _ (added x p kind sum last today r) =
 each-counts : (x : Guarantees) → In-order x → Each-counts x
 each-counts x o p day inside =
     let down : (g h : Guarantee) → earlier g h ≡ true → past-on day h ≡ true → past-on day g ≡ true = λ g h a b. lt-ltb (g .last) day (omega (arith, leb-true (g .last) (h .last) a, ltb-true (h .last) day b)) in
-    cond-true (in-range p day) (folder-cover (folder-of x p) day) 0 inside ∙ clear-ordered sum-of earlier (past-on day) down (held-in (folder-of x p)) (o p)
+    cond-true (in-range p day) (folder-cover (folder-of x p) day) 0 inside ∙ clear-ordered sum-in earlier (past-on day) down (held-in (folder-of x p)) (o p)
 
 pub runs-count : Runs-count
 runs-count x r = let o = order-kept x r in (o, each-counts x o)

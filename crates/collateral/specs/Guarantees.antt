@@ -11,7 +11,8 @@ use lib.Dec.{leb, ltb, eqb}
 use lib.ListN.{length, getD, set, take, drop, replicate}
 use Rattle.std.specs.declared.result.Result.{Result}
 use Rattle.roll.specs.Rolls.{behind, clear-of, inserted, laid}
-use Rattle.roll.specs.Spending.{spent, spent-clear, total}
+use Rattle.roll.specs.Spending.{spent, spent-clear}
+use Rattle.roll.specs.Sums.{sum-of}
 use Rattle.collateral.specs.declared.folder.Guarantee.{Guarantee}
 use Rattle.collateral.specs.declared.folder.Folder.{Folder}
 use Rattle.collateral.specs.declared.guarantees.Guarantees.{Guarantees}
@@ -20,8 +21,8 @@ use Rattle.collateral.specs.declared.kind.Cause.the-variants.{Stranger, Unknow
 use Rattle.collateral.specs.Causes.{_⇒_, granted, judged}
 use Rattle.collateral.specs.Cover.{in-range, participant}
 
-abbrev pub sum-of : Guarantee → ℕ
-sum-of g = g .sum
+abbrev pub sum-in : Guarantee → ℕ
+sum-in g = g .sum
 
 abbrev pub at-sum : ℕ → Guarantee → Guarantee
 at-sum n g = record { last = g .last; sum = n }
@@ -43,14 +44,14 @@ abbrev pub valid : ℕ → List Guarantee → List Guarantee
 valid day gs = clear-of (past-on day) gs
 
 abbrev pub folder-cover : Folder → ℕ → ℕ
-folder-cover f day = total sum-of (valid day (held-in f))
+folder-cover f day = sum-of sum-in (valid day (held-in f))
 
 -- a sum spent along what stands behind the first `gone`
 abbrev pub used-from : ℕ → ℕ → List Guarantee → List Guarantee
-used-from gone sum gs = take gone gs ++ spent sum-of at-sum sum (drop gone gs)
+used-from gone sum gs = take gone gs ++ spent sum-in at-sum sum (drop gone gs)
 
 abbrev pub used : ℕ → ℕ → List Guarantee → List Guarantee
-used day sum gs = spent-clear sum-of at-sum (past-on day) sum gs
+used day sum gs = spent-clear sum-in at-sum (past-on day) sum gs
 
 abbrev pub stored : ℕ → Guarantee → List Guarantee → List Guarantee
 stored today g gs = inserted earlier g (valid today gs)

@@ -6,7 +6,7 @@ ghost use lib.Dec.{leb};
 ghost use lib.ListN.{length, take};
 ghost use Rattle.roll.specs.Rolls.{behind, laid};
 ghost use Rattle.roll.specs.Spending.{spent};
-ghost use Rattle.collateral.specs.Guarantees.{at-sum, earlier, filed, folder-cover, has-free, paid-from, past-on, sum-of, used-from};
+ghost use Rattle.collateral.specs.Guarantees.{at-sum, earlier, filed, folder-cover, has-free, paid-from, past-on, sum-in, used-from};
 use super::bounds::PLACES;
 use roll::Ranked;
 use roll::Roll;
@@ -29,7 +29,7 @@ pub impl Ranked for Guarantee as GuaranteeRanked {
 }
 
 pub impl Spendable for Guarantee as GuaranteeSpendable {
-    ghost amount = { sum-of };
+    ghost amount = { sum-in };
 
     ghost lowered = { at-sum };
 
@@ -68,9 +68,9 @@ fn past_of(guarantees: &[Guarantee], day: u16) -> usize
 // Spends a sum along the first `n` guarantees: how many are left.
 fn spend_along(places: &mut [Guarantee], n: usize, sum: u64) -> usize
     requires { ⌜ n ≤ length (now places) ⌝ }
-    ensures value { λ r. ⌜ r ≡ length (spent sum-of at-sum sum (take n (now (places .entry)))) ⌝ }
+    ensures value { λ r. ⌜ r ≡ length (spent sum-in at-sum sum (take n (now (places .entry)))) ⌝ }
     ensures within { λ r. ⌜ r ≤ n ⌝ }
-    ensures after { λ _. ⌜ now (places .exit) ≡ laid (spent sum-of at-sum sum (take n (now (places .entry)))) (now (places .entry)) ⌝ }
+    ensures after { λ _. ⌜ now (places .exit) ≡ laid (spent sum-in at-sum sum (take n (now (places .entry)))) (now (places .entry)) ⌝ }
 {
     let mut roll = Roll::over(places, n);
     let (_spent, _left) = roll.spend(sum);

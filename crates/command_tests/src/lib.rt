@@ -5,3 +5,5 @@ mod each_letter;
 mod lines_written;
 #[cfg(test)]
 mod refusals;
+#[cfg(test)]
+mod text_lines;

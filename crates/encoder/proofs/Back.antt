@@ -26,7 +26,7 @@ big-endian-first : (w n : ℕ) → big-endian (suc w) n ≡ n / 256 ^ w % 256 �
 big-endian-first zero n = ap (λ x. x % 256 ∷ []) (sym (div-one n))
 big-endian-first (suc w) n = refl
 
-length-big-endian : (w n : ℕ) → length (big-endian w n) ≡ w
+pub length-big-endian : (w n : ℕ) → length (big-endian w n) ≡ w
 length-big-endian zero n = refl
 length-big-endian (suc w) n = ap length (big-endian-first w n) ∙ ap suc (length-big-endian w n)
 

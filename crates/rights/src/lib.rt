@@ -18,3 +18,6 @@ pub use returns::waits;
 pub use transfers::hold_awarded;
 pub use transfers::holds_through;
 pub use transfers::transfer;
+
+#[cfg(test)]
+mod tests;

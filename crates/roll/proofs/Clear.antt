@@ -11,7 +11,8 @@ use lib.ListN.{length, take, drop}
 use Rattle.std.proofs.shelf.Tests.{both-ways, cases-bool, cond-false, cond-true, ltb-false, or-cases, or-from, or-left, or-parts, or-right}
 use Rattle.std.proofs.shelf.Ways.{tells}
 use Rattle.roll.specs.Rolls.{Heads, Ordered, behind, clear-of, inserted}
-use Rattle.roll.specs.Spending.{spent, spent-clear, total}
+use Rattle.roll.specs.Spending.{spent, spent-clear}
+use Rattle.roll.specs.Sums.{sum-of}
 use Rattle.roll.proofs.Orders.{inserted-more}
 use Rattle.roll.proofs.Spending.{ordered-spent, spent-cases, spent-total}
 
@@ -77,29 +78,29 @@ module _ {X : Type 0} where
 
   module _ (amount : X → ℕ) where
     -- what is clear of a test amounts to, with one more record in front
-    pub clear-more : (test : X → Bool) (x : X) (xs : List X) → total amount (clear-of test (x ∷ xs)) ≡ cond (some test xs || test x) (total amount (clear-of test xs)) (amount x + total amount (clear-of test xs))
+    pub clear-more : (test : X → Bool) (x : X) (xs : List X) → sum-of amount (clear-of test (x ∷ xs)) ≡ cond (some test xs || test x) (sum-of amount (clear-of test xs)) (amount x + sum-of amount (clear-of test xs))
     clear-more test x xs =
-        let T = total amount (clear-of test xs) in
+        let T = sum-of amount (clear-of test xs) in
         elim (cases-bool (some test xs || test x)) [
-          | inl e ↦ ap (total amount) (clear-some test x xs e) ∙ sym (cond-true (some test xs || test x) T (amount x + T) e)
-          | inr e ↦ ap (total amount) (clear-none test (x ∷ xs) (some-more test x xs ∙ e)) ∙ ap (λ zs. amount x + total amount zs) (sym (clear-none test xs (or-parts (some test xs) (test x) e .0))) ∙ sym (cond-false (some test xs || test x) T (amount x + T) e)
+          | inl e ↦ ap (sum-of amount) (clear-some test x xs e) ∙ sym (cond-true (some test xs || test x) T (amount x + T) e)
+          | inr e ↦ ap (sum-of amount) (clear-none test (x ∷ xs) (some-more test x xs ∙ e)) ∙ ap (λ zs. amount x + sum-of amount zs) (sym (clear-none test xs (or-parts (some test xs) (test x) e .0))) ∙ sym (cond-false (some test xs || test x) T (amount x + T) e)
         ]
 
     -- what follows from more records leaves fewer
-    pub clear-falls : (t u : X → Bool) → ((x : X) → t x ≡ true → u x ≡ true) → (xs : List X) → total amount (clear-of u xs) ≤ total amount (clear-of t xs)
+    pub clear-falls : (t u : X → Bool) → ((x : X) → t x ≡ true → u x ≡ true) → (xs : List X) → sum-of amount (clear-of u xs) ≤ sum-of amount (clear-of t xs)
     clear-falls t u f [] = omega arith
     clear-falls t u f (x ∷ xs) =
         front-falls (some t xs || t x) (some u xs || u x) (amount x) _ _ _ _ (or-follows (some t xs) (t x) (some u xs) (u x) (some-follows t u f xs) (f x)) (clear-more t x xs) (clear-more u x xs) (clear-falls t u f xs)
 
     -- records that meet the narrower test can be left out before
-    pub clear-clear : (t u : X → Bool) → ((x : X) → t x ≡ true → u x ≡ true) → (xs : List X) → total amount (clear-of u (clear-of t xs)) ≡ total amount (clear-of u xs)
+    pub clear-clear : (t u : X → Bool) → ((x : X) → t x ≡ true → u x ≡ true) → (xs : List X) → sum-of amount (clear-of u (clear-of t xs)) ≡ sum-of amount (clear-of u xs)
     clear-clear t u f [] = refl
     clear-clear t u f (x ∷ xs) =
         elim (cases-bool (some t xs || t x)) [
           | inl e ↦
               let b = or-follows (some t xs) (t x) (some u xs) (u x) (some-follows t u f xs) (f x) e in
-              ap (λ zs. total amount (clear-of u zs)) (clear-some t x xs e) ∙ clear-clear t u f xs ∙ ap (total amount) (sym (clear-some u x xs b))
-          | inr e ↦ ap (λ zs. total amount (clear-of u zs)) (clear-none t (x ∷ xs) (some-more t x xs ∙ e))
+              ap (λ zs. sum-of amount (clear-of u zs)) (clear-some t x xs e) ∙ clear-clear t u f xs ∙ ap (sum-of amount) (sym (clear-some u x xs b))
+          | inr e ↦ ap (λ zs. sum-of amount (clear-of u zs)) (clear-none t (x ∷ xs) (some-more t x xs ∙ e))
         ]
 
     -- in an ordered list just the records that do not meet the test are clear of it, if all before one that meets it do
@@ -108,10 +109,10 @@ module _ {X : Type 0} where
       heads-some x [] h e = absurd (both-ways false refl e)
       heads-some x (y ∷ ys) h e = elim (or-cases (some t ys) (t y) (sym (some-more t y ys) ∙ e)) [ inl c ↦ heads-some x ys (h .1) c | inr c ↦ down x y (h .0) c ]
 
-      pub clear-ordered : (xs : List X) → Ordered first xs → total amount (clear-of t xs) ≡ total (λ x. cond (t x) 0 (amount x)) xs
+      pub clear-ordered : (xs : List X) → Ordered first xs → sum-of amount (clear-of t xs) ≡ sum-of (λ x. cond (t x) 0 (amount x)) xs
       clear-ordered [] h = refl
       clear-ordered (x ∷ xs) h =
-          let T = total amount (clear-of t xs) in
+          let T = sum-of amount (clear-of t xs) in
           let i = clear-ordered xs (h .1) in
           elim (cases-bool (t x)) [
             | inl e ↦ let z = cond-true (t x) 0 (amount x) e in let b = cond-true (some t xs || t x) T (amount x + T) (or-right (some t xs) (t x) e) in omega (arith, clear-more t x xs)
@@ -137,20 +138,20 @@ module _ {X : Type 0} where
                   ap (some u) (inserted-more first x y ys ∙ cond-false B (y ∷ inserted first x ys) (x ∷ y ∷ ys) e) ∙ some-more u x (y ∷ ys) ∙ or-from (some u (y ∷ ys)) (u x) none clear ∙ sym none
             ]
 
-        pub put-clear : (ys : List X) → total amount (clear-of u (inserted first x ys)) ≡ total amount (clear-of u ys) + amount x
+        pub put-clear : (ys : List X) → sum-of amount (clear-of u (inserted first x ys)) ≡ sum-of amount (clear-of u ys) + amount x
         put-clear [] = clear-more u x [] ∙ cond-false (some u [] || u x) 0 (amount x + 0) (or-from (some u []) (u x) refl clear) ∙ omega arith
         put-clear (y ∷ ys) =
             let B = some (λ z. first z x) ys || first y x in
             elim (cases-bool B) [
               | inl e ↦
-                  let more = ap (λ zs. total amount (clear-of u zs)) (inserted-more first x y ys ∙ cond-true B (y ∷ inserted first x ys) (x ∷ y ∷ ys) e) in
-                  let r = more ∙ clear-more u y (inserted first x ys) ∙ ap (λ b. cond (b || u y) (total amount (clear-of u (inserted first x ys))) (amount y + total amount (clear-of u (inserted first x ys)))) (some-put ys) in
+                  let more = ap (λ zs. sum-of amount (clear-of u zs)) (inserted-more first x y ys ∙ cond-true B (y ∷ inserted first x ys) (x ∷ y ∷ ys) e) in
+                  let r = more ∙ clear-more u y (inserted first x ys) ∙ ap (λ b. cond (b || u y) (sum-of amount (clear-of u (inserted first x ys))) (amount y + sum-of amount (clear-of u (inserted first x ys)))) (some-put ys) in
                   front-adds (some u ys || u y) (amount y) (amount x) _ _ _ _ (clear-more u y ys) r (put-clear ys)
               | inr e ↦
-                  let T = total amount (clear-of u (y ∷ ys)) in
+                  let T = sum-of amount (clear-of u (y ∷ ys)) in
                   let none = not-follows (some u (y ∷ ys)) (some (λ z. first z x) (y ∷ ys)) (some-follows u (λ z. first z x) before (y ∷ ys)) (some-more (λ z. first z x) y ys ∙ e) in
                   let here : cond (some u (y ∷ ys) || u x) T (amount x + T) ≡ amount x + T = cond-false (some u (y ∷ ys) || u x) T (amount x + T) (or-from (some u (y ∷ ys)) (u x) none clear) in
-                  ap (λ zs. total amount (clear-of u zs)) (inserted-more first x y ys ∙ cond-false B (y ∷ inserted first x ys) (x ∷ y ∷ ys) e) ∙ clear-more u x (y ∷ ys) ∙ here ∙ omega arith
+                  ap (λ zs. sum-of amount (clear-of u zs)) (inserted-more first x y ys ∙ cond-false B (y ∷ inserted first x ys) (x ∷ y ∷ ys) e) ∙ clear-more u x (y ∷ ys) ∙ here ∙ omega arith
             ]
 
       -- one that meets it
@@ -164,36 +165,36 @@ module _ {X : Type 0} where
               | inr e ↦ ap (some u) (inserted-more first x y ys ∙ cond-false B (y ∷ inserted first x ys) (x ∷ y ∷ ys) e) ∙ some-more u x (y ∷ ys) ∙ or-right (some u (y ∷ ys)) (u x) past
             ]
 
-        pub put-past : (ys : List X) → total amount (clear-of u (inserted first x ys)) ≡ total amount (clear-of u ys)
-        put-past [] = ap (total amount) (clear-some u x [] (or-right (some u []) (u x) past))
+        pub put-past : (ys : List X) → sum-of amount (clear-of u (inserted first x ys)) ≡ sum-of amount (clear-of u ys)
+        put-past [] = ap (sum-of amount) (clear-some u x [] (or-right (some u []) (u x) past))
         put-past (y ∷ ys) =
             let B = some (λ z. first z x) ys || first y x in
             elim (cases-bool B) [
               | inl e ↦
                   let b = or-follows (some (λ z. first z x) ys) (first y x) (some u ys) (u y) (some-follows (λ z. first z x) u after ys) (after y) e in
-                  ap (λ zs. total amount (clear-of u zs)) (inserted-more first x y ys ∙ cond-true B (y ∷ inserted first x ys) (x ∷ y ∷ ys) e) ∙ ap (total amount) (clear-some u y (inserted first x ys) (or-left (some u (inserted first x ys)) (u y) (some-put-past ys))) ∙ put-past ys ∙ ap (total amount) (sym (clear-some u y ys b))
-              | inr e ↦ ap (λ zs. total amount (clear-of u zs)) (inserted-more first x y ys ∙ cond-false B (y ∷ inserted first x ys) (x ∷ y ∷ ys) e) ∙ ap (total amount) (clear-some u x (y ∷ ys) (or-right (some u (y ∷ ys)) (u x) past))
+                  ap (λ zs. sum-of amount (clear-of u zs)) (inserted-more first x y ys ∙ cond-true B (y ∷ inserted first x ys) (x ∷ y ∷ ys) e) ∙ ap (sum-of amount) (clear-some u y (inserted first x ys) (or-left (some u (inserted first x ys)) (u y) (some-put-past ys))) ∙ put-past ys ∙ ap (sum-of amount) (sym (clear-some u y ys b))
+              | inr e ↦ ap (λ zs. sum-of amount (clear-of u zs)) (inserted-more first x y ys ∙ cond-false B (y ∷ inserted first x ys) (x ∷ y ∷ ys) e) ∙ ap (sum-of amount) (clear-some u x (y ∷ ys) (or-right (some u (y ∷ ys)) (u x) past))
             ]
 
     -- a sum is spent: a record keeps its test as its amount falls
     module _ (lowered : ℕ → X → X) (lowers : (x : X) (n : ℕ) → amount (lowered n x) ≡ n) where
-      part-more : (u : X → Bool) → ((x : X) (n : ℕ) → u (lowered n x) ≡ u x) → (x : X) (k : ℕ) (xs : List X) → total amount (clear-of u (lowered k x ∷ xs)) ≡ cond (some u xs || u x) (total amount (clear-of u xs)) (k + total amount (clear-of u xs))
+      part-more : (u : X → Bool) → ((x : X) (n : ℕ) → u (lowered n x) ≡ u x) → (x : X) (k : ℕ) (xs : List X) → sum-of amount (clear-of u (lowered k x ∷ xs)) ≡ cond (some u xs || u x) (sum-of amount (clear-of u xs)) (k + sum-of amount (clear-of u xs))
       part-more u keeps x k xs =
-          let T = total amount (clear-of u xs) in
+          let T = sum-of amount (clear-of u xs) in
           clear-more u (lowered k x) xs ∙ ap (λ b. cond (some u xs || b) T (amount (lowered k x) + T)) (keeps x k) ∙ ap (λ a. cond (some u xs || u x) T (a + T)) (lowers x k)
 
       module _ (u : X → Bool) (keeps : (x : X) (n : ℕ) → u (lowered n x) ≡ u x) where
-        pub spent-at-most : (n : ℕ) (xs : List X) → total amount (clear-of u xs) ≤ total amount (clear-of u (spent amount lowered n xs)) + n
+        pub spent-at-most : (n : ℕ) (xs : List X) → sum-of amount (clear-of u xs) ≤ sum-of amount (clear-of u (spent amount lowered n xs)) + n
         spent-at-most n [] = omega arith
         spent-at-most n (x ∷ xs) =
-            spent-cases amount lowered (λ zs. total amount (clear-of u (x ∷ xs)) ≤ total amount (clear-of u zs) + n) n x xs
+            spent-cases amount lowered (λ zs. sum-of amount (clear-of u (x ∷ xs)) ≤ sum-of amount (clear-of u zs) + n) n x xs
             (λ l. whole-at-most (some u xs || u x) (amount x) n _ _ _ l (clear-more u x xs) (spent-at-most (n - amount x) xs))
             (λ l. part-at-most (some u xs || u x) (amount x) n _ _ _ l (clear-more u x xs) (part-more u keeps x (amount x - n) xs))
 
-        pub spent-no-rise : (n : ℕ) (xs : List X) → total amount (clear-of u (spent amount lowered n xs)) ≤ total amount (clear-of u xs)
+        pub spent-no-rise : (n : ℕ) (xs : List X) → sum-of amount (clear-of u (spent amount lowered n xs)) ≤ sum-of amount (clear-of u xs)
         spent-no-rise n [] = omega arith
         spent-no-rise n (x ∷ xs) =
-            spent-cases amount lowered (λ zs. total amount (clear-of u zs) ≤ total amount (clear-of u (x ∷ xs))) n x xs
+            spent-cases amount lowered (λ zs. sum-of amount (clear-of u zs) ≤ sum-of amount (clear-of u (x ∷ xs))) n x xs
             (λ l. whole-no-rise (some u xs || u x) (amount x) _ _ _ (clear-more u x xs) (spent-no-rise (n - amount x) xs))
             (λ l. part-no-rise (some u xs || u x) (amount x) n _ _ _ (clear-more u x xs) (part-more u keeps x (amount x - n) xs))
 
@@ -251,45 +252,45 @@ module _ {X : Type 0} where
               let b = sym (some-more t x xs) ∙ h in
               ap (some u) (spent-clear-some x xs b) ∙ some-more u x (spent-clear amount lowered t n xs) ∙ same-front x xs b (some-spent-clear xs) ∙ sym (some-more u x xs)
 
-          front-more : (x : X) (xs : List X) → (some t xs || t x) ≡ true → let S = spent-clear amount lowered t n xs in total amount (clear-of u (spent-clear amount lowered t n (x ∷ xs))) ≡ cond (some u xs || u x) (total amount (clear-of u S)) (amount x + total amount (clear-of u S))
+          front-more : (x : X) (xs : List X) → (some t xs || t x) ≡ true → let S = spent-clear amount lowered t n xs in sum-of amount (clear-of u (spent-clear amount lowered t n (x ∷ xs))) ≡ cond (some u xs || u x) (sum-of amount (clear-of u S)) (amount x + sum-of amount (clear-of u S))
           front-more x xs h =
               let S = spent-clear amount lowered t n xs in
-              ap (λ zs. total amount (clear-of u zs)) (spent-clear-some x xs h) ∙ clear-more u x S ∙ ap (λ b. cond b (total amount (clear-of u S)) (amount x + total amount (clear-of u S))) (same-front x xs h (some-spent-clear xs))
+              ap (λ zs. sum-of amount (clear-of u zs)) (spent-clear-some x xs h) ∙ clear-more u x S ∙ ap (λ b. cond b (sum-of amount (clear-of u S)) (amount x + sum-of amount (clear-of u S))) (same-front x xs h (some-spent-clear xs))
 
-          pub spent-clear-at-most : (xs : List X) → total amount (clear-of u xs) ≤ total amount (clear-of u (spent-clear amount lowered t n xs)) + n
+          pub spent-clear-at-most : (xs : List X) → sum-of amount (clear-of u xs) ≤ sum-of amount (clear-of u (spent-clear amount lowered t n xs)) + n
           spent-clear-at-most [] = omega arith
           spent-clear-at-most (x ∷ xs) =
               elim (cases-bool (some t xs || t x)) [
                 | inl e ↦ front-at-most (some u xs || u x) (amount x) n _ _ _ _ (clear-more u x xs) (front-more x xs e) (spent-clear-at-most xs)
-                | inr e ↦ subst (λ zs. total amount (clear-of u (x ∷ xs)) ≤ total amount (clear-of u zs) + n) (sym (spent-clear-none (x ∷ xs) (some-more t x xs ∙ e))) (spent-at-most u keeps n (x ∷ xs))
+                | inr e ↦ subst (λ zs. sum-of amount (clear-of u (x ∷ xs)) ≤ sum-of amount (clear-of u zs) + n) (sym (spent-clear-none (x ∷ xs) (some-more t x xs ∙ e))) (spent-at-most u keeps n (x ∷ xs))
               ]
 
-          pub spent-clear-no-rise : (xs : List X) → total amount (clear-of u (spent-clear amount lowered t n xs)) ≤ total amount (clear-of u xs)
+          pub spent-clear-no-rise : (xs : List X) → sum-of amount (clear-of u (spent-clear amount lowered t n xs)) ≤ sum-of amount (clear-of u xs)
           spent-clear-no-rise [] = omega arith
           spent-clear-no-rise (x ∷ xs) =
               elim (cases-bool (some t xs || t x)) [
                 | inl e ↦ front-falls (some u xs || u x) (some u xs || u x) (amount x) _ _ _ _ (λ h. h) (clear-more u x xs) (front-more x xs e) (spent-clear-no-rise xs)
-                | inr e ↦ subst (λ zs. total amount (clear-of u zs) ≤ total amount (clear-of u (x ∷ xs))) (sym (spent-clear-none (x ∷ xs) (some-more t x xs ∙ e))) (spent-no-rise u keeps n (x ∷ xs))
+                | inr e ↦ subst (λ zs. sum-of amount (clear-of u zs) ≤ sum-of amount (clear-of u (x ∷ xs))) (sym (spent-clear-none (x ∷ xs) (some-more t x xs ∙ e))) (spent-no-rise u keeps n (x ∷ xs))
               ]
 
         -- what is clear of t itself falls by just the sum
         module _ (keeps : (x : X) (n : ℕ) → t (lowered n x) ≡ t x) where
-          pub spent-clear-there : (xs : List X) → n ≤ total amount (clear-of t xs) → total amount (clear-of t (spent-clear amount lowered t n xs)) + n ≡ total amount (clear-of t xs)
+          pub spent-clear-there : (xs : List X) → n ≤ sum-of amount (clear-of t xs) → sum-of amount (clear-of t (spent-clear amount lowered t n xs)) + n ≡ sum-of amount (clear-of t xs)
           spent-clear-there [] l = omega arith
           spent-clear-there (x ∷ xs) l =
               elim (cases-bool (some t xs || t x)) [
                 | inl e ↦
                     let S = spent-clear amount lowered t n xs in
-                    let T = total amount (clear-of t xs) in
-                    let a : total amount (clear-of t (x ∷ xs)) ≡ T = ap (total amount) (clear-some t x xs e) in
-                    let b : total amount (clear-of t (spent-clear amount lowered t n (x ∷ xs))) ≡ total amount (clear-of t S) = front-more t keeps (inl (λ y h. h)) x xs e ∙ cond-true (some t xs || t x) (total amount (clear-of t S)) (amount x + total amount (clear-of t S)) e in
+                    let T = sum-of amount (clear-of t xs) in
+                    let a : sum-of amount (clear-of t (x ∷ xs)) ≡ T = ap (sum-of amount) (clear-some t x xs e) in
+                    let b : sum-of amount (clear-of t (spent-clear amount lowered t n (x ∷ xs))) ≡ sum-of amount (clear-of t S) = front-more t keeps (inl (λ y h. h)) x xs e ∙ cond-true (some t xs || t x) (sum-of amount (clear-of t S)) (amount x + sum-of amount (clear-of t S)) e in
                     let i = spent-clear-there xs (omega arith) in
                     omega arith
                 | inr e ↦
                     let none = some-more t x xs ∙ e in
-                    let a : total amount (clear-of t (x ∷ xs)) ≡ total amount (x ∷ xs) = ap (total amount) (clear-none t (x ∷ xs) none) in
+                    let a : sum-of amount (clear-of t (x ∷ xs)) ≡ sum-of amount (x ∷ xs) = ap (sum-of amount) (clear-none t (x ∷ xs) none) in
                     let left = spent amount lowered n (x ∷ xs) in
-                    let b : total amount (clear-of t (spent-clear amount lowered t n (x ∷ xs))) ≡ total amount left = ap (λ zs. total amount (clear-of t zs)) (spent-clear-none (x ∷ xs) none) ∙ ap (total amount) (clear-none t left (some-spent t keeps n (x ∷ xs) none)) in
+                    let b : sum-of amount (clear-of t (spent-clear amount lowered t n (x ∷ xs))) ≡ sum-of amount left = ap (λ zs. sum-of amount (clear-of t zs)) (spent-clear-none (x ∷ xs) none) ∙ ap (sum-of amount) (clear-none t left (some-spent t keeps n (x ∷ xs) none)) in
                     let c = spent-total amount lowered lowers n (x ∷ xs) in
                     omega arith
               ]

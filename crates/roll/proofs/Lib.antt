@@ -10,4 +10,3 @@ pub mod Rows
 pub mod Spending
 pub mod Steps
 pub mod Sums
-pub mod Totals

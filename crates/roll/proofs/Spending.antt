@@ -9,12 +9,13 @@ use lib.ListN.{length, take, drop, getD, set, length-take, length-drop}
 use Rattle.std.proofs.shelf.Lists.{drop-all, drop-more}
 use Rattle.std.proofs.shelf.Tests.{leb-true, leb-false, le-leb, lt-leb}
 use Rattle.roll.specs.Rolls.{Heads, Ordered, laid}
-use Rattle.roll.specs.Spending.{Emptied, spent, total}
+use Rattle.roll.specs.Spending.{Emptied, spent}
+use Rattle.roll.specs.Sums.{sum-of}
 use Rattle.roll.proofs.Behind.{drop-read}
 
 -- one record on
-pub total-more : {X : Type 0} (amount : X → ℕ) (xs : List X) (i : ℕ) (x : X) → i < length xs → x ≡ getD xs i x → total amount (drop i xs) ≡ amount x + total amount (drop (i + 1) xs)
-total-more amount xs i x l e = ap (total amount) (drop-read xs i x l e)
+pub total-more : {X : Type 0} (amount : X → ℕ) (xs : List X) (i : ℕ) (x : X) → i < length xs → x ≡ getD xs i x → sum-of amount (drop i xs) ≡ amount x + sum-of amount (drop (i + 1) xs)
+total-more amount xs i x l e = ap (sum-of amount) (drop-read xs i x l e)
 
 module _ {X : Type 0} (amount : X → ℕ) (lowered : ℕ → X → X) where
   pub spent-whole : (n : ℕ) (x : X) (xs : List X) → amount x ≤ n → spent amount lowered n (x ∷ xs) ≡ spent amount lowered (n - amount x) xs
@@ -41,12 +42,12 @@ module _ {X : Type 0} (amount : X → ℕ) (lowered : ℕ → X → X) where
   spent-within n (x ∷ xs) = let h = spent-within (n - amount x) xs in spent-cases (λ zs. length zs ≤ length (x ∷ xs)) n x xs (λ l. omega arith) (λ l. omega arith)
 
   -- nothing is lost
-  pub spent-total : ((x : X) (n : ℕ) → amount (lowered n x) ≡ n) → (n : ℕ) (xs : List X) → total amount xs ≡ total amount (spent amount lowered n xs) + min n (total amount xs)
+  pub spent-total : ((x : X) (n : ℕ) → amount (lowered n x) ≡ n) → (n : ℕ) (xs : List X) → sum-of amount xs ≡ sum-of amount (spent amount lowered n xs) + min n (sum-of amount xs)
   spent-total lowers n [] = omega arith
   spent-total lowers n (x ∷ xs) =
       let h = spent-total lowers (n - amount x) xs in
       let w = lowers x (amount x - n) in
-      spent-cases (λ zs. total amount (x ∷ xs) ≡ total amount zs + min n (total amount (x ∷ xs))) n x xs (λ l. omega arith) (λ l. omega arith)
+      spent-cases (λ zs. sum-of amount (x ∷ xs) ≡ sum-of amount zs + min n (sum-of amount (x ∷ xs))) n x xs (λ l. omega arith) (λ l. omega arith)
 
   -- ordered in, ordered out
   module _ (first : X → X → Bool) (stands : (x y : X) (n : ℕ) → first (lowered n x) y ≡ first x y) where
@@ -68,7 +69,7 @@ module _ {X : Type 0} (amount : X → ℕ) (lowered : ℕ → X → X) where
         let at : x ≡ getD xs gone x = read ∙ ap (λ z. getD z 0 x) (e ∙ ap (λ z. laid z p) (drop-more xs gone x m)) in
         (m, at, subst (λ z. left < amount z) (sym at) (h .short x m))
 
-    pub part-spent : (x v : X) → gone < n → x ≡ getD q 0 x → v ≡ lowered (amount x - left) x → (set q 0 v ≡ laid (spent amount lowered sum (take n p)) p) × (n - gone ≡ length (spent amount lowered sum (take n p))) × (0 ≡ sum - total amount (take n p))
+    pub part-spent : (x v : X) → gone < n → x ≡ getD q 0 x → v ≡ lowered (amount x - left) x → (set q 0 v ≡ laid (spent amount lowered sum (take n p)) p) × (n - gone ≡ length (spent amount lowered sum (take n p))) × (0 ≡ sum - sum-of amount (take n p))
     part-spent x v l read w =
         let xs = take n p in
         let rest = drop (gone + 1) xs in
@@ -79,11 +80,11 @@ module _ {X : Type 0} (amount : X → ℕ) (lowered : ℕ → X → X) where
         let m = total-more amount xs gone x (f .0) (f .1) in
         (ap (λ z. set z 0 v) (e ∙ ap (λ z. laid z p) d) ∙ ap (λ z. laid z p) (sym s), omega (arith, length-drop (gone + 1) xs, length-take n p), omega arith)
 
-    pub all-spent : n ≤ gone → (q ≡ laid (spent amount lowered sum (take n p)) p) × (0 ≡ length (spent amount lowered sum (take n p))) × (left ≡ sum - total amount (take n p))
+    pub all-spent : n ≤ gone → (q ≡ laid (spent amount lowered sum (take n p)) p) × (0 ≡ length (spent amount lowered sum (take n p))) × (left ≡ sum - sum-of amount (take n p))
     all-spent l =
         let xs = take n p in
         let m : length xs ≤ gone = omega (arith, length-take n p) in
         let d : drop gone xs ≡ [] = drop-all gone xs m in
         let s : spent amount lowered sum xs ≡ [] = h .goes-on ∙ ap (spent amount lowered left) d in
-        let t : total amount (drop gone xs) ≡ 0 = ap (total amount) d in
+        let t : sum-of amount (drop gone xs) ≡ 0 = ap (sum-of amount) d in
         (e ∙ ap (λ z. laid z p) (d ∙ sym s), ap length (sym s), omega arith)

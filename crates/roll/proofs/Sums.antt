@@ -64,3 +64,7 @@ pub sum-set-ge : {X : Type 0} (f : X → ℕ) (xs : List X) (i : ℕ) (y d : X) 
 sum-set-ge f [] i y d b h le = absurd (omega arith)
 sum-set-ge f (x ∷ xs) zero y d b h le = omega arith
 sum-set-ge f (x ∷ xs) (suc i) y d b h le = omega (arith, sum-set-ge f xs i y d b (le-of-suc-le-suc h) le)
+
+-- one record more, and the sum so far is still at most the whole
+pub sum-step : {X : Type 0} (f : X → ℕ) (xs : List X) (i sum : ℕ) (d : X) → i < length xs → sum ≡ sum-of f (take i xs) → (sum + f (getD xs i d) ≡ sum-of f (take (i + 1) xs)) × (sum + f (getD xs i d) ≤ sum-of f xs)
+sum-step f xs i sum d h e = let m = sum-more f xs i d h in let t = sum-take f (i + 1) xs in (omega arith, omega arith)

@@ -2,7 +2,8 @@ use mathlib.Core.Path.{sym, ap, subst}
 use native.Mathlib.Omega.{arith}
 use borrow.Author.Needs.{needs}
 use Rattle.roll.specs.Rolls.{Ordered}
-use Rattle.roll.specs.Spending.{spent, total}
+use Rattle.roll.specs.Spending.{spent}
+use Rattle.roll.specs.Sums.{sum-of}
 use Rattle.roll.specs.Views.{list-of, row-of}
 use Rattle.roll.proofs.Moves.{laid-front, laid-room}
 use Rattle.roll.proofs.Spending.{ordered-spent, spent-total}
@@ -20,7 +21,7 @@ returns g c =
     let done = c .spend-in-len .ensures in
     let list = laid-front left row _ _ (sym (done .len)) (done .after) in
     let kept = spent-total (t .amount) (t .lowered) (laws .lowers) sum was in
-    let same = ap (total (t .amount)) list in
+    let same = ap (sum-of (t .amount)) list in
     let room = laid-room left row _ (done .after) in
     record {
       value = search needs;
