@@ -6,3 +6,4 @@ pub mod Tight
 pub mod Curtailments
 pub mod Totals
 pub mod Earned
+pub mod Amounts
