@@ -86,8 +86,13 @@ stage-sealed Sealed h = refl
 stage-sealed (Awarded price) h = absurd (let z : _≡_ {A = ℕ} 0 1 = cc in omega arith)
 stage-sealed Cancelled h = absurd (let z : _≡_ {A = ℕ} 0 1 = cc in omega arith)
 
-pub not-awarded : (s : Stage) → not (is-open s || is-sealed s) ≡ false → cond {A = ℕ} (is-awarded s) 1 0 ≡ 0
-not-awarded Open h = refl
-not-awarded Sealed h = refl
-not-awarded (Awarded price) h = absurd (let z : _≡_ {A = ℕ} 0 1 = cc in omega arith)
-not-awarded Cancelled h = refl
+pub holds-if : (b : Bool) → not b ≡ false → b ≡ true
+holds-if true h = refl
+holds-if false h = absurd (let z : _≡_ {A = ℕ} 0 1 = cc in omega arith)
+
+pub both-hold : (b c : Bool) → (b && c) ≡ true → (b ≡ true) × (c ≡ true)
+both-hold true c h = (refl, h)
+both-hold false c h = absurd (let z : _≡_ {A = ℕ} 0 1 = cc in omega arith)
+
+pub open-if : (s : Stage) → is-open s ≡ true → s ≡ Open
+open-if s h = stage-open s (ap not h)

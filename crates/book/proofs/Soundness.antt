@@ -6,6 +6,8 @@ use native.Mathlib.Omega.{arith}
 use lib.Dec.{ltb}
 use Rattle.std.specs.declared.result.Result.{Result}
 use Rattle.std.proofs.shelf.Ways.{tells}
+use Rattle.ledger.specs.Auctions.{is-awarded, is-open}
+use Rattle.ledger.specs.Ledgers.{auction-at}
 use Rattle.ledger.specs.Limits.{all-limits}
 use Rattle.ledger.specs.Moves.{account-paid}
 use Rattle.ledger.specs.Sound.{Sound}
@@ -17,7 +19,7 @@ use Rattle.book.specs.Law.{History, begun, called}
 use Rattle.book.specs.Moments.{Moment}
 use Rattle.book.specs.Steps.{Step, bad-mw, bid-of, direction-of, draw-table, drawn, not-opened}
 use Rattle.book.specs.Tables.{passes}
-use Rattle.book.proofs.Granted.{a-participant, an-auction, both-pass, good-mw, good-span, leaves-keeps, not-awarded, stage-open, stage-sealed}
+use Rattle.book.proofs.Granted.{a-participant, an-auction, both-pass, good-mw, good-span, both-hold, holds-if, leaves-keeps, open-if, stage-open, stage-sealed}
 
 either : (P : Ledger → Type 0) (b : Bool) (x y : Ledger) → P x → P y → P (cond b x y)
 either P true x y h k = h
@@ -51,14 +53,18 @@ sound-step (award-auction a) m r m′ h s =
     let there = an-auction a (m .ledger) (t .0) in
     sound-award a (m .ledger) h (there .0) (there .1) (stage-sealed _ (t .1 .0)))
 sound-step (cancel-auction a) m r m′ h s =
-    leaves-keeps Sound _ _ _ m r m′ s h (λ t. let there = an-auction a (m .ledger) (t .0) in sound-cancel a (m .ledger) h (there .0) (there .1) (not-awarded _ (t .1 .0)))
-sound-step (transfer-rights giver taker a first hours mw) m r m′ h s = leaves-keeps Sound _ _ _ m r m′ s h (λ t. sound-transfer giver taker a first hours mw (m .ledger) h)
+    leaves-keeps Sound _ _ _ m r m′ s h (λ t.
+    let there = an-auction a (m .ledger) (t .0) in
+    sound-cancel a (m .ledger) h (there .0) (there .1) (holds-if _ (t .1 .0)))
+sound-step (transfer-rights giver taker a first hours mw) m r m′ h s =
+    leaves-keeps Sound _ _ _ m r m′ s h (λ t. sound-transfer giver taker a first hours mw (m .ledger) h (holds-if _ (t .1 .1 .1 .1 .1 .1 .0)))
 sound-step (return-rights p out into mw) m r m′ h s =
     leaves-keeps Sound _ _ _ m r m′ s h (λ t.
     let opened = both-pass (not-opened out (m .ledger)) (not-opened into (m .ledger)) (t .1 .0) in
     let there = an-auction into (m .ledger) (opened .1) in
+    let stages = both-hold (is-awarded (auction-at (m .ledger) out .stage)) (is-open (auction-at (m .ledger) into .stage)) (holds-if _ (t .1 .1 .0)) in
     let room = t .1 .1 .1 .1 .1 .1 .1 .0 in
-    sound-return p out into mw (m .ledger) h (there .0) (there .1) (grind (arith, tells)))
+    sound-return p out into mw (m .ledger) h (there .0) (there .1) (stages .0) (open-if _ (stages .1)) (holds-if _ (t .1 .1 .1 .0)) (holds-if _ (t .1 .1 .1 .1 .1 .1 .0)) (grind (arith, tells)))
 sound-step (curtail-rights from to first limits) m r m′ h s = leaves-keeps Sound _ _ _ m r m′ s h (λ t. sound-curtail (direction-of from to) first limits (m .ledger) h)
 sound-step (send-invoice p) m r m′ h s = leaves-keeps Sound _ _ _ m r m′ s h (λ t. sound-invoice p (m .ledger) h (λ pos. let full = t .1 .1 .0 in grind (arith, tells)))
 sound-step (pay-invoices p sum) m r m′ h s = leaves-keeps Sound _ _ _ m r m′ s h (λ t. sound-payment p sum (m .ledger) h)

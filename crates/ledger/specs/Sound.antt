@@ -17,7 +17,7 @@ use Rattle.ledger.specs.declared.auctions.Stage.{Stage}
 use Rattle.ledger.specs.declared.auctions.Stage.the-variants.{Open, Sealed, Awarded, Cancelled}
 use Rattle.ledger.specs.declared.ledgers.Ledger.{Ledger}
 use Rattle.ledger.specs.Auctions.{no-auction, no-sheet, placed-in, unopened-auction}
-use Rattle.ledger.specs.Bounds.{awards}
+use Rattle.ledger.specs.Bounds.{Sound-money, Sound-rights, awards}
 use Rattle.ledger.specs.Ledgers.{no-account}
 
 -- a sheet: at most four bids, within the limits of a bid, in their order
@@ -79,3 +79,5 @@ pub record Sound-accounts (l : Ledger) : Type 0 where
 pub record Sound (l : Ledger) : Type 0 where
   pub auctions : Sound-auctions l
   pub accounts : Sound-accounts l
+  pub rights : Sound-rights l
+  pub money : Sound-money l
