@@ -1,4 +1,5 @@
 pub mod Invoices
 pub mod Settling
+pub mod Debts
 pub mod Bounds
 pub mod Worked

@@ -8,6 +8,7 @@ pub use accounts::Invoice;
 pub use accounts::MOST_INVOICES;
 pub use invoices::InvoiceRanked;
 pub use invoices::InvoiceSpendable;
+pub use settling::debt_laws;
 pub use settling::worked_by_hand;
 
 #[cfg(test)]

@@ -9,7 +9,6 @@ use lib.ListN.{length, getD, set}
 use lib.Seq.{getD-set-other}
 use Rattle.std.proofs.shelf.Tests.{leb-true}
 use Rattle.roll.specs.Rows.{each-with}
-use Rattle.roll.specs.Sums.{sum-of}
 use Rattle.roll.proofs.Changes.{set-up, set-down, sum-up, sum-down, sum-each, each-up}
 use Rattle.rights.specs.declared.hours.Hour.{Hour}
 use Rattle.rights.specs.Spans.{part}

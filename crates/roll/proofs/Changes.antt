@@ -1,7 +1,7 @@
 -- Sums, and the numbers of single records, where a record or each record is changed. Only inequalities, which ask for
 -- no lengths: past the end nothing changes.
 use mathlib.Core.Path.{_≡_}
-use mathlib.Core.List.{List, [], _∷_, map}
+use mathlib.Core.List.{List, [], _∷_}
 use Prim.Native.Nat.{ℕ, zero, suc, _+_, _≤_}
 use native.Mathlib.Omega.{arith}
 use lib.ListN.{getD, set}

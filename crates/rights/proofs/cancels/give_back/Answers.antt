@@ -1,5 +1,3 @@
-use mathlib.Core.Path.{_≡_}
-use borrow.Author.Needs.{needs}
 use native.Mathlib.Omega.{arith}
 use Rattle.rights.specs.Holdings.{no-hour}
 use Rattle.rights.specs.Returns.{restored}
