@@ -3,21 +3,27 @@ use mathlib.Core.Path.{_≡_}
 use mathlib.Core.Bool.{false}
 use mathlib.Core.List.{List, [], _∷_, _++_}
 use Prim.Native.Nat.{ℕ, _+_, _-_, _≤_, _<_}
-use lib.ListN.{drop}
+use lib.ListN.{drop, getD}
+use Rattle.std.specs.declared.option.Option.{Option}
+use Rattle.std.specs.declared.option.Option.the-variants.{Some, None}
 use Rattle.std.specs.declared.result.Result.{Result}
 use Rattle.std.specs.declared.result.Result.the-variants.{Ok, Err}
 use Rattle.auction.specs.Award.{pays}
 use Rattle.auction.specs.Bids.{bids-of, kept-of}
 use Rattle.auction.specs.Rivals.{Stands}
 use Rattle.auction.specs.declared.bids.Bid.{Bid}
+use Rattle.ledger.specs.Auctions.{same-way}
 use Rattle.ledger.specs.Ledgers.{auction-at, new-ledger, sheet-at}
 use Rattle.ledger.specs.Limits.{Cover, held-sums, overdue-by, owes}
 use Rattle.ledger.specs.Sound.{Sound}
+use Rattle.ledger.specs.declared.auctions.Direction.{Direction}
 use Rattle.ledger.specs.declared.auctions.Stage.the-variants.{Sealed}
+use Rattle.ledger.specs.declared.ledgers.Ledger.{Ledger}
+use Rattle.rights.specs.Holdings.{no-hour, row-at}
 use Rattle.book.specs.declared.refusals.Refusal.{Refusal}
 use Rattle.book.specs.Calls.{Call, Reply, add-collateral, withdraw, open-auction, place-bid, seal-auction, award-auction, cancel-auction, transfer-rights, return-rights, curtail-rights, send-invoice, pay-invoices, draw-overdue, pay-balance, move-day}
 use Rattle.book.specs.Moments.{Moment, Verdict, cover-today}
-use Rattle.book.specs.Steps.{Step}
+use Rattle.book.specs.Steps.{Step, direction-of}
 use Rattle.book.specs.Tables.{is-granted}
 
 -- what has come of a new book by calls, one after another, over collateral with any cover to begin with
@@ -112,3 +118,37 @@ abbrev pub RefusalsChangeNothing : Type 0
 RefusalsChangeNothing =
     (k : Call) (m : Moment) (r : Result (Reply k) Refusal) (m′ : Moment) → Step k m r m′ → is-granted r ≡ false →
     (m′ .ledger ≡ m .ledger) × (m′ .cover ≡ m .cover) × (m′ .verdict ≡ m .verdict)
+
+-- the direction in which a call acts, if it acts in one: that of its auction, or the one that it names
+abbrev pub acts-in : Call → Ledger → Option Direction
+acts-in (open-auction from to first hours capacity) l = Some (direction-of from to)
+acts-in (place-bid p a price mw) l = Some (auction-at l a .direction)
+acts-in (seal-auction a) l = Some (auction-at l a .direction)
+acts-in (award-auction a) l = Some (auction-at l a .direction)
+acts-in (cancel-auction a) l = Some (auction-at l a .direction)
+acts-in (transfer-rights giver taker a first hours mw) l = Some (auction-at l a .direction)
+acts-in (return-rights p out into mw) l = Some (auction-at l into .direction)
+acts-in (curtail-rights from to first limits) l = Some (direction-of from to)
+acts-in (add-collateral p kind sum last) l = None
+acts-in (withdraw p sum) l = None
+acts-in (send-invoice p) l = None
+acts-in (pay-invoices p sum) l = None
+acts-in (draw-overdue p) l = None
+acts-in (pay-balance p) l = None
+acts-in (move-day day) l = None
+
+-- another direction, or none at all
+abbrev pub Elsewhere : Option Direction → Direction → Type 0
+Elsewhere None e = Unit {0}
+Elsewhere (Some d) e = same-way d e ≡ false
+
+-- an auction's direction, price, capacity and bids, and its holdings in every hour, are those of another moment
+pub record Untouched (l m : Ledger) (b : ℕ) : Type 0 where
+  pub auction : auction-at m b ≡ auction-at l b
+  pub holdings : (h : ℕ) → row-at (b - 1) (getD (m .rights) h no-hour) ≡ row-at (b - 1) (getD (l .rights) h no-hour)
+
+-- nothing done in one direction touches an auction of another, in any history
+abbrev pub DirectionsApart : Type 0
+DirectionsApart =
+    (m : Moment) → History m → (k : Call) (r : Result (Reply k) Refusal) (m′ : Moment) → Step k m r m′ →
+    (b : ℕ) → 1 ≤ b → b ≤ m .ledger .opened → Elsewhere (acts-in k (m .ledger)) (auction-at (m .ledger) b .direction) → Untouched (m .ledger) (m′ .ledger) b

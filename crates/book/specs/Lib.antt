@@ -5,3 +5,4 @@ pub mod Calls
 pub mod Steps
 pub mod Questions
 pub mod Law
+pub mod Worked

@@ -1,7 +1,8 @@
 // The book itself: a ledger, and the collateral that stands behind it.
 ghost use mathlib.Core.Path.{_≡_};
 ghost use Rattle.ledger.specs.Ledgers.{new-ledger};
-ghost use Rattle.book.specs.Law.{AlwaysSound, CreditLaw, RefusalsChangeNothing};
+ghost use Rattle.book.specs.Worked.{WorkedByHand};
+ghost use Rattle.book.specs.Law.{AlwaysSound, CreditLaw, DirectionsApart, RefusalsChangeNothing};
 use collateral::kind::Collateral;
 use ledger::Ledger;
 
@@ -20,10 +21,20 @@ impl<C: Collateral> Book<C> {
         ensures law { λ _. ⌜ CreditLaw ⌝ }
         ensures sound { λ _. ⌜ AlwaysSound ⌝ }
         ensures refusals { λ _. ⌜ RefusalsChangeNothing ⌝ }
+        ensures directions { λ _. ⌜ DirectionsApart ⌝ }
     {
         Book {
             ledger: Ledger::new(),
             collateral,
         }
     }
+}
+
+// The cases worked by hand, of all crates.
+pub fn worked_by_hand()
+    ensures { λ _. ⌜ WorkedByHand ⌝ }
+{
+    auction::worked_by_hand();
+    rights::worked_by_hand();
+    account::worked_by_hand();
 }

@@ -8,5 +8,6 @@ pub use answers::Cut;
 pub use answers::Netting;
 pub use answers::Receipt;
 pub use books::Book;
+pub use books::worked_by_hand;
 pub use refusals::Layer;
 pub use refusals::Refusal;

@@ -67,6 +67,6 @@ waiting-hours x = x .product .hours * hour-mw (x .returned)
 abbrev pub mw-hours : Ledger → ℕ
 mw-hours l = all-mw (l .rights) + sum-of waiting-hours (l .auctions)
 
--- what is claimed, and what could be at the highest price, is at most 960,000,000,000 cents for each award and as much for its returns
+-- what is claimed, and what could be at the highest price, is at most 960,000,000,000 cents for each award
 pub record Sound-money (l : Ledger) : Type 0 where
-  pub within : sum-of earned (l .accounts) + 1000000 * mw-hours l ≤ 1920000000000 * awards l
+  pub within : sum-of earned (l .accounts) + 1000000 * mw-hours l ≤ 960000000000 * awards l

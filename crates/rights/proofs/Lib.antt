@@ -7,3 +7,4 @@ pub mod Curtailments
 pub mod Totals
 pub mod Earned
 pub mod Amounts
+pub mod Apart
