@@ -4,7 +4,7 @@ ghost use Prim.Native.Nat.{_≤_};
 ghost use lib.ListN.{length};
 ghost use mathlib.Core.Bool.{cond};
 ghost use Rattle.roll.specs.Rolls.{Ordered};
-ghost use Rattle.auction.specs.Bids.{bids-of, kept-of, dearer, has-place, with-bid, no-bids};
+ghost use Rattle.auction.specs.Bids.{bids-of, kept-of, dearer, has-place, mw-all, with-bid, no-bids};
 ghost use Rattle.auction.specs.Charge.{worst-charge};
 ghost use Rattle.auction.specs.Seal.{sealed, all-sealed, Longest-front};
 ghost use Rattle.auction.specs.Rivals.{Pays-at-most, Made-to-pay, Rightly-left-out};
@@ -13,6 +13,7 @@ use super::bids::BidRanked;
 use super::bids::MOST_BIDS;
 use super::bids::PARTICIPANTS;
 use super::charges::kept_count;
+use super::charges::mw_from;
 use super::charges::worst_charge;
 use super::products::Product;
 use roll::Roll;
@@ -80,6 +81,14 @@ impl Sheet {
         } else {
             placed
         }
+    }
+
+    // The MW of all bids.
+    pub fn mw(&self) -> u32
+        ensures value { λ r. ⌜ r ≡ mw-all (bids-of (now (self .entry))) ⌝ }
+        ensures within { λ r. ⌜ r ≤ 262140 ⌝ }
+    {
+        mw_from(self.placed(), 0)
     }
 
     // The most that the bids can cost, whatever the others bid.

@@ -11,7 +11,7 @@ use mathlib.Core.Logic.{_⊎_, inl, inr}
 use Rattle.roll.specs.Rows.{each-with}
 use Rattle.roll.specs.Sums.{sum-of}
 use Rattle.roll.proofs.Rows.{set-under, with-at, with-length, with-sum}
-use Rattle.roll.proofs.Sums.{sum-map, sum-set-ge}
+use Rattle.roll.proofs.Sums.{sum-map, sum-set-ge, sum-under}
 use Rattle.std.specs.shelf.Lists.{All}
 use Rattle.std.proofs.shelf.Elements.{all-take}
 use Rattle.auction.specs.Award.{kept-lists}
@@ -190,3 +190,22 @@ keep-auctions l m h n r e = record {
   unopened = λ a le lt. ap (λ xs. getD xs a no-auction) e ∙ h .unopened a (rw n at le) lt;
   receipts = rw (e, r) (h .receipts);
 }
+
+-- WHAT A BID SHOWS
+
+-- the sheet after a bid, and its auction's product
+pub bid-shows : (p a : ℕ) (b : Bid) (l : Ledger) → Sound-auctions l → 1 ≤ p → p ≤ 12 → 1 ≤ a → a ≤ l .opened → (auction-at (bid-placed p a b l) a .product ≡ auction-at l a .product) × (sheet-at (bid-placed p a b l) a p ≡ with-bid b (sheet-at l a p))
+bid-shows p a b l h p1 p2 a1 a2 =
+    let x : Auction = auction-at l a in
+    let e : auction-at (bid-placed p a b l) a ≡ with-sheet p (with-bid b (sheet-of p x)) x = getD-set-same (l .auctions) (a - 1) (with-sheet p (with-bid b (sheet-of p x)) x) no-auction (omega (arith, h .rows, h .opened)) in (
+      ap (λ (y : Auction). y .product) e,
+      ap (sheet-of p) e ∙ getD-set-same (x .sheets) (p - 1) (with-bid b (sheet-of p x)) no-sheet (omega (arith, at-number l a h a1 a2 .rows)),
+    )
+
+-- there are at most 8 × 12 × 4 receipts
+pub receipts-few : (l : Ledger) → Sound-auctions l → l .receipts ≤ 384
+receipts-few l h =
+    omega (arith, h .receipts, h .rows, sum-under placed-in 48 (l .auctions) no-auction (λ a lt. in-auction (getD (l .auctions) a no-auction) (h .each a (omega (arith, h .rows)))))
+  where
+    in-auction : (x : Auction) → Sound-auction x → placed-in x ≤ 48
+    in-auction x s = omega (arith, s .rows, sum-under (λ (t : Sheet). t .count) 4 (x .sheets) no-sheet (λ i lt. s .sheets i (omega (arith, s .rows)) .count))

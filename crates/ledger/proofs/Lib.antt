@@ -1,6 +1,7 @@
 pub mod Sheets
 pub mod Kept
 pub mod Loads
+pub mod Once
 pub mod Owing
 pub mod Sounds
 pub mod RightsKept

@@ -18,7 +18,11 @@ use Rattle.roll.proofs.Sums.{sum-take}
 use Rattle.auction.specs.Bids.{Lawful, Within, bids-of, dearer, kept-of, mw-all, with-bid}
 use Rattle.auction.specs.declared.bids.Bid.{Bid}
 use Rattle.auction.specs.declared.sheets.Sheet.{Sheet}
-use Rattle.ledger.specs.Sound.{Sound-sheet}
+use Rattle.auction.proofs.Fronts.{kept-within}
+use Rattle.ledger.specs.declared.auctions.Auction.{Auction}
+use Rattle.ledger.specs.declared.auctions.Stage.the-variants.{Sealed}
+use Rattle.ledger.specs.Auctions.{no-sheet}
+use Rattle.ledger.specs.Sound.{Sound-auction, Sound-sheet, Staged}
 
 pub within-more : (c k : ℕ) (bs : List Bid) → c ≤ k → Within c bs → Within k bs
 within-more c k bs h w = (w .0, omega arith, w .2)
@@ -52,3 +56,10 @@ sheet-with c b s h ok free fits =
     laid-places =
         length-laid (inserted dearer b (bids-of s)) (s .bids) (omega (arith, h .places, length-inserted dearer b (bids-of s), length-take (s .count) (s .bids)))
         ∙ h .places
+
+-- the seal keeps at most four bids
+pub kept-few : (x : Auction) → Sound-auction x → x .stage ≡ Sealed → (i : ℕ) → i < 12 → getD (x .sheets) i no-sheet .kept ≤ 4
+kept-few x h stage i lt =
+    let s : Sheet = getD (x .sheets) i no-sheet in
+    let g = subst (λ st. Staged st (x .product) s) stage (h .staged i lt) in
+    omega (arith, g .0, kept-within (s .limit) (x .product) (bids-of s), h .sheets i lt .bids .0)

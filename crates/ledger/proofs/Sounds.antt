@@ -28,12 +28,13 @@ use Rattle.ledger.proofs.MoneyKept.{money-award, money-bid, money-cancel, mone
 use Rattle.ledger.proofs.Kept.{at-number, auction-new, auctions-new, keep-auctions, keep-award, keep-bid, keep-cancel, keep-open, keep-return, keep-seal}
 
 pub sound-new : Sound new-ledger
-sound-new = record { auctions = auctions-new; accounts = accounts-new; rights = rights-new; money = money-new }
+sound-new = record { day = omega arith; auctions = auctions-new; accounts = accounts-new; rights = rights-new; money = money-new }
 
 pub sound-open : (d : Direction) (first : ℕ) (product : Product) (capacity : ℕ) (l : Ledger) → Sound l → l .opened < 8 → 1 ≤ capacity → capacity ≤ 5000 → first + product .hours ≤ 192 → Sound (opened-with (new-auction d first product capacity) l)
 sound-open d first product capacity l h room some most span =
     let x : Auction = new-auction d first product capacity in
     record {
+      day = h .day;
       auctions = keep-open l x (h .auctions) room some (auction-new d first product capacity most span);
       accounts = accounts-kept l (opened-with x l) (h .accounts) refl (awards-open l (opened-with x l) x (h .auctions) room refl);
       rights = rights-open d first product capacity l (h .auctions) (h .rights) room;
@@ -48,6 +49,7 @@ pub sound-bid : (p a : ℕ) (b : Bid) (l : Ledger) → Sound l → 1 ≤ p → p
 sound-bid p a b l h p1 p2 a1 a2 stage ok free fits =
     let x : Auction = auction-at l a in
     record {
+      day = h .day;
       auctions = keep-bid l p a b (h .auctions) p1 p2 a1 a2 stage ok free fits;
       accounts = kept l (bid-placed p a b l) a (with-sheet p (with-bid b (sheet-of p x)) x) h a1 a2 refl refl (omega arith);
       rights = rights-bid p a b l (h .auctions) (h .rights) a1 a2 stage;
@@ -58,6 +60,7 @@ pub sound-seal : (a : ℕ) (limits : List ℕ) (l : Ledger) → Sound l → 1 �
 sound-seal a limits l h a1 a2 stage twelve =
     let none : awarded-one (auction-at l a) ≡ 0 = rw stage refl in
     record {
+      day = h .day;
       auctions = keep-seal l (auction-sealed a limits l) a limits (h .auctions) a1 a2 twelve refl refl refl;
       accounts = kept l (auction-sealed a limits l) a (sealed-at limits (auction-at l a)) h a1 a2 refl refl (omega arith);
       rights = rights-seal a limits l (h .auctions) (h .rights) a1 a2 stage;
@@ -69,6 +72,7 @@ sound-award a l h a1 a2 stage =
     let x : Auction = auction-at l a in
     let none : awarded-one x ≡ 0 = rw stage refl in
     record {
+      day = h .day;
       auctions = keep-award l (auction-awarded a l) a (h .auctions) a1 a2 stage refl refl refl;
       accounts = accounts-award l (auction-awarded a l) x (h .accounts) (at-number l a (h .auctions) a1 a2) stage refl (awards-put l (auction-awarded a l) a 1 (awarded-as x) (h .auctions) a1 a2 refl (omega arith));
       rights = rights-award a l (h .auctions) (h .rights) a1 a2 stage;
@@ -79,6 +83,7 @@ pub sound-cancel : (a : ℕ) (l : Ledger) → Sound l → 1 ≤ a → a ≤ l .o
 sound-cancel a l h a1 a2 stage =
     let none : awarded-one (auction-at l a) ≡ 0 = ap (λ b. cond {A = ℕ} b 1 0) (before-award (auction-at l a .stage) stage) in
     record {
+      day = h .day;
       auctions = keep-cancel l (auction-cancelled a l) a (h .auctions) a1 a2 refl refl refl;
       accounts = kept l (auction-cancelled a l) a (cancelled (auction-at l a)) h a1 a2 refl refl (omega arith);
       rights = rights-cancel a l (h .auctions) (h .rights) a1 a2 stage;
@@ -89,6 +94,7 @@ pub sound-transfer : (giver taker a first hours mw : ℕ) (l : Ledger) → Sound
 sound-transfer giver taker a first hours mw l h has =
     let m : Ledger = rights-transferred giver taker a first hours mw l in
     record {
+      day = h .day;
       auctions = keep-auctions l m (h .auctions) refl refl refl;
       accounts = accounts-kept l m (h .accounts) refl (awards-same l m refl);
       rights = rights-transfer giver taker a first hours mw l (h .rights) has;
@@ -100,6 +106,7 @@ sound-return p out into mw l h a1 a2 sold entered way has room =
     let x : Auction = auction-at l into in
     let waits = waiting-more (out - 1) (p - 1) mw (x .returned) in
     record {
+      day = h .day;
       auctions = keep-return l (rights-returned p out into mw l) into waits (x .capacity + mw) (h .auctions) a1 a2 (omega arith) room refl refl refl;
       accounts = kept l (rights-returned p out into mw l) into (with-returned waits (x .capacity + mw) x) h a1 a2 refl refl (omega arith);
       rights = rights-return p out into mw l (h .auctions) (h .rights) a1 a2 sold entered way has;
@@ -110,6 +117,7 @@ pub sound-curtail : (d : Direction) (first : ℕ) (limits : List ℕ) (l : Ledge
 sound-curtail d first limits l h =
     let m : Ledger = rights-curtailed d first limits l in
     record {
+      day = h .day;
       auctions = keep-auctions l m (h .auctions) refl refl refl;
       accounts = accounts-claims l m (all-earned (prices-towards d l) first limits 24 (l .rights) (replicate 12 0)) (h .accounts) refl (awards-same l m refl);
       rights = rights-curtail d first limits l (h .rights);
@@ -119,19 +127,19 @@ sound-curtail d first limits l h =
 pub sound-invoice : (p : ℕ) (l : Ledger) → Sound l → (0 < to-pay (account-at l p) → account-at l p .unpaid < 4) → Sound (account-invoiced p l)
 sound-invoice p l h free =
     let m : Ledger = account-invoiced p l in
-    record { auctions = keep-auctions l m (h .auctions) refl refl refl; accounts = accounts-invoice l m p (h .accounts) refl (awards-same l m refl) free; rights = rights-kept l m (h .rights) refl refl; money = money-invoice p l (h .money) }
+    record { day = h .day; auctions = keep-auctions l m (h .auctions) refl refl refl; accounts = accounts-invoice l m p (h .accounts) refl (awards-same l m refl) free; rights = rights-kept l m (h .rights) refl refl; money = money-invoice p l (h .money) }
 
 pub sound-payment : (p sum : ℕ) (l : Ledger) → Sound l → Sound (account-paid p sum l)
 sound-payment p sum l h =
     let m : Ledger = account-paid p sum l in
-    record { auctions = keep-auctions l m (h .auctions) refl refl refl; accounts = accounts-payment l m p sum (h .accounts) refl (awards-same l m refl); rights = rights-kept l m (h .rights) refl refl; money = money-payment p sum l (h .money) }
+    record { day = h .day; auctions = keep-auctions l m (h .auctions) refl refl refl; accounts = accounts-payment l m p sum (h .accounts) refl (awards-same l m refl); rights = rights-kept l m (h .rights) refl refl; money = money-payment p sum l (h .money) }
 
 pub sound-payout : (p : ℕ) (l : Ledger) → Sound l → Sound (account-paid-out p l)
 sound-payout p l h =
     let m : Ledger = account-paid-out p l in
-    record { auctions = keep-auctions l m (h .auctions) refl refl refl; accounts = accounts-payout l m p (h .accounts) refl (awards-same l m refl); rights = rights-kept l m (h .rights) refl refl; money = money-payout p l (h .money) }
+    record { day = h .day; auctions = keep-auctions l m (h .auctions) refl refl refl; accounts = accounts-payout l m p (h .accounts) refl (awards-same l m refl); rights = rights-kept l m (h .rights) refl refl; money = money-payout p l (h .money) }
 
-pub sound-day : (d : ℕ) (l : Ledger) → Sound l → Sound (on-day d l)
-sound-day d l h =
+pub sound-day : (d : ℕ) (l : Ledger) → Sound l → d ≤ 9900 → Sound (on-day d l)
+sound-day d l h late =
     let m : Ledger = on-day d l in
-    record { auctions = keep-auctions l m (h .auctions) refl refl refl; accounts = accounts-kept l m (h .accounts) refl (awards-same l m refl); rights = rights-kept l m (h .rights) refl refl; money = money-day d l (h .money) }
+    record { day = late; auctions = keep-auctions l m (h .auctions) refl refl refl; accounts = accounts-kept l m (h .accounts) refl (awards-same l m refl); rights = rights-kept l m (h .rights) refl refl; money = money-day d l (h .money) }

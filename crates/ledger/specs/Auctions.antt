@@ -1,9 +1,9 @@
 -- Auctions, their stages, and what stands in them. Participants are numbered from 1.
 use mathlib.Core.Path.{_≡_}
-use mathlib.Core.Bool.{Bool, true, false, cond, _&&_}
+use mathlib.Core.Bool.{Bool, true, false, cond, _&&_, _||_}
 use mathlib.Core.List.{List, []}
-use Prim.Native.Nat.{ℕ, _-_}
-use lib.Dec.{eqb}
+use Prim.Native.Nat.{ℕ, _+_, _-_}
+use lib.Dec.{eqb, ltb}
 use lib.ListN.{getD, replicate}
 use Rattle.std.specs.declared.option.Option.{Option}
 use Rattle.std.specs.declared.option.Option.the-variants.{Some, None}
@@ -46,6 +46,10 @@ price-at Open = None
 price-at Sealed = None
 price-at (Awarded price) = Some price
 price-at Cancelled = None
+
+-- a span of hours that does not lie in another
+abbrev pub outside : ℕ → ℕ → ℕ → ℕ → Bool
+outside first hours from for = ltb first from || ltb (from + for) (first + hours)
 
 -- what stands for a record that is not there
 abbrev pub no-sheet : Sheet

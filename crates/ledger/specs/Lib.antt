@@ -5,3 +5,4 @@ pub mod Limits
 pub mod Moves
 pub mod Sound
 pub mod Stages
+pub mod Turns

@@ -77,6 +77,7 @@ pub record Sound-accounts (l : Ledger) : Type 0 where
   pub each : (i : ℕ) → i < 12 → Sound-account (most-due * awards l) (getD (l .accounts) i no-account)
 
 pub record Sound (l : Ledger) : Type 0 where
+  pub day : l .day ≤ 9900
   pub auctions : Sound-auctions l
   pub accounts : Sound-accounts l
   pub rights : Sound-rights l

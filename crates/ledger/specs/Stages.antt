@@ -67,8 +67,11 @@ return-claims x = map (cost (x .product) (outcome x .price)) (waits-of (x .retur
 abbrev pub after-award : Auction → List Account → List Account
 after-award x accounts = each-with claiming (return-claims x) (each-with charged (dues-of (x .product) (outcome x)) accounts)
 
+abbrev pub awarded-with : ℕ → Auction → Auction
+awarded-with price x = with-returned nothing (x .capacity) (at-stage (Awarded price) (map freed (x .sheets)) x)
+
 abbrev pub awarded-as : Auction → Auction
-awarded-as x = with-returned nothing (x .capacity) (at-stage (Awarded (outcome x .price)) (map freed (x .sheets)) x)
+awarded-as x = awarded-with (outcome x .price) x
 
 -- and the MW are held in each hour
 abbrev pub auction-awarded : ℕ → Ledger → Ledger

@@ -1,6 +1,6 @@
 // An auction, from its opening to its award.
 ghost use mathlib.Core.Path.{_≡_};
-ghost use Rattle.ledger.specs.Auctions.{new-auction};
+ghost use Rattle.ledger.specs.Auctions.{new-auction, same-way};
 use auction::PARTICIPANTS;
 use auction::Product;
 use auction::Sheet;
@@ -12,6 +12,15 @@ use rights::Hour;
 pub struct Direction {
     pub from: u8,
     pub to: u8,
+}
+
+impl Direction {
+    // As ordered pairs: the other way round is another direction.
+    pub fn same_as(self, other: Direction) -> bool
+        ensures { λ r. ⌜ r ≡ same-way self other ⌝ }
+    {
+        self.from == other.from && self.to == other.to
+    }
 }
 
 #[derive(Clone, Copy)]

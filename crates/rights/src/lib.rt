@@ -8,6 +8,7 @@ mod transfers;
 
 pub use awards::hold_awarded;
 pub use cancels::give_back;
+pub use cuts::LIMIT_BYTES;
 pub use cuts::curtail;
 pub use cuts::cut_hour;
 pub use cuts::worked_by_hand;

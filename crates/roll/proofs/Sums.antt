@@ -73,3 +73,8 @@ sum-step f xs i sum d h e = let m = sum-more f xs i d h in let t = sum-take f (i
 pub sum-each : {X : Type 0} (f : X → ℕ) (m : ℕ) (xs : List X) → ((x : X) → f x ≤ m) → sum-of f xs ≤ m * length xs
 sum-each f m [] h = omega arith
 sum-each f m (x ∷ xs) h = omega (arith, h x, sum-each f m xs h, mul-suc m (length xs))
+
+-- the same where the bound holds at each place
+pub sum-under : {X : Type 0} (f : X → ℕ) (m : ℕ) (xs : List X) (d : X) → ((k : ℕ) → k < length xs → f (getD xs k d) ≤ m) → sum-of f xs ≤ m * length xs
+sum-under f m [] d h = omega arith
+sum-under f m (x ∷ xs) d h = omega (arith, h 0 (omega arith), sum-under f m xs d (λ k lt. h (suc k) (omega arith)), mul-suc m (length xs))
