@@ -1,3 +1,4 @@
+pub mod Again
 pub mod Granted
 pub mod Soundness
 pub mod Coverage

@@ -71,7 +71,7 @@ sound-step (pay-invoices p sum) m r m′ h s = leaves-keeps Sound _ _ _ m r m′
 sound-step (draw-overdue p) m r m′ h s =
     subst Sound (sym (s .ledger)) (either Sound (passes (draw-table p m)) (account-paid p (drawn m p) (m .ledger)) (m .ledger) (sound-payment p (drawn m p) (m .ledger) h) h)
 sound-step (pay-balance p) m r m′ h s = leaves-keeps Sound _ _ _ m r m′ s h (λ t. sound-payout p (m .ledger) h)
-sound-step (move-day day) m r m′ h s = leaves-keeps Sound _ _ _ m r m′ s h (λ t. sound-day day (m .ledger) h)
+sound-step (move-day day) m r m′ h s = leaves-keeps Sound _ _ _ m r m′ s h (λ t. let late = t .0 in sound-day day (m .ledger) h (grind (arith, tells)))
 
 pub sound : {m : Moment} → History m → Sound (m .ledger)
 sound (begun c v) = sound-new

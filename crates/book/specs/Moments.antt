@@ -14,6 +14,10 @@ pub record Moment : Type 0 where
   pub cover : Cover
   pub verdict : Verdict
 
+-- what a book with this ledger shows over collateral with this cover and these verdicts
+abbrev pub seen : Ledger → Cover → Verdict → Moment
+seen l c v = record { ledger = l; cover = c; verdict = v }
+
 -- a participant's cover and credit limit today
 abbrev pub cover-today : Moment → ℕ → ℕ
 cover-today m p = m .cover p (m .ledger .day)

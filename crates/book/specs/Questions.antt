@@ -5,13 +5,14 @@ use Prim.Native.Nat.{ℕ, _+_, _-_}
 use lib.Dec.{ltb, leb}
 use lib.ListN.{getD}
 use Rattle.std.specs.declared.result.Result.{Result}
+use Rattle.ledger.specs.Auctions.{outside}
 use Rattle.ledger.specs.Ledgers.{auction-at, sheet-at}
 use Rattle.ledger.specs.Limits.{owes}
 use Rattle.rights.specs.Holdings.{holding, no-hour}
 use Rattle.book.specs.declared.refusals.Refusal.{Refusal}
 use Rattle.book.specs.declared.refusals.Refusal.the-variants.{Participant, Unopened, Hours}
 use Rattle.book.specs.Moments.{Moment, limit}
-use Rattle.book.specs.Steps.{not-opened, outside, stranger}
+use Rattle.book.specs.Steps.{not-opened, stranger}
 use Rattle.book.specs.Tables.{Row, _⇒_, answers}
 
 abbrev pub limit-asked : ℕ → Moment → Result ℕ Refusal

@@ -14,7 +14,7 @@ use Rattle.auction.specs.Charge.{worst-charge}
 use Rattle.auction.specs.declared.bids.Bid.{Bid}
 use Rattle.collateral.specs.Cover.{Added, Took}
 use Rattle.collateral.specs.declared.kind.Cause.{Cause}
-use Rattle.ledger.specs.Auctions.{is-awarded, is-open, is-sealed, new-auction, same-way}
+use Rattle.ledger.specs.Auctions.{is-awarded, is-open, is-sealed, new-auction, outside, same-way}
 use Rattle.ledger.specs.Ledgers.{account-at, auction-at, on-day, sheet-at}
 use Rattle.ledger.specs.Limits.{all-limits, overdue-by}
 use Rattle.ledger.specs.Moves.{account-invoiced, account-paid, account-paid-out, mw-lost, rights-curtailed, rights-returned, rights-transferred}
@@ -49,10 +49,6 @@ bad-mw mw = ltb mw 1 || ltb 5000 mw
 -- no hours, or hours past 191
 abbrev pub bad-hours : ℕ → ℕ → Bool
 bad-hours first hours = ltb hours 1 || ltb 192 (first + hours)
-
--- a span of hours that does not lie in another
-abbrev pub outside : ℕ → ℕ → ℕ → ℕ → Bool
-outside first hours from for = ltb first from || ltb (from + for) (first + hours)
 
 -- CALLS THAT LEAVE THE COLLATERAL ALONE: the table of refusals, the answer, the ledger after
 
