@@ -1,0 +1,3 @@
+// Stories of a book over cash and guarantees, worked by hand.
+#[cfg(test)]
+mod stories;
