@@ -1,4 +1,7 @@
 // What a participant owes and is owed: dues, claims, invoices, the payout balance.
+
+#![tactic(auto)]
+
 mod accounts;
 mod invoices;
 mod settling;

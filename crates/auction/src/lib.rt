@@ -1,4 +1,7 @@
 // One auction from bids to dues: the worst charge, the cut at the seal, the price, the awards.
+
+#![tactic(auto)]
+
 mod awards;
 mod bids;
 mod charges;

@@ -1,4 +1,7 @@
 // One auction from bids to dues, on a worked example, printed as a table.
+
+#![tactic(auto)]
+
 mod example;
 mod table;
 

@@ -1,4 +1,7 @@
 // The book: a ledger over any kind of collateral.
+
+#![tactic(auto)]
+
 mod asking;
 mod auctioning;
 mod books;

@@ -1,4 +1,7 @@
 // Collateral of any kind: the interface, and cash, guarantees and two kinds joined.
+
+#![tactic(auto)]
+
 pub mod bounds;
 pub mod cash;
 mod folder;

@@ -1,4 +1,7 @@
 // The command file: what a command says, and how it is read off bytes.
+
+#![tactic(auto)]
+
 mod commands;
 mod reader;
 mod unreadable;

@@ -1,4 +1,7 @@
 // Examples of the command file, worked by hand: commands as bytes, bytes that are no command, and lines.
+
+#![tactic(auto)]
+
 #[cfg(test)]
 mod each_letter;
 #[cfg(test)]

@@ -1,4 +1,7 @@
 // Commands as lines of text: a letter and its operands in decimal, such as `D 1 1 100000 9999`.
+
+#![tactic(auto)]
+
 mod line;
 mod usage;
 mod widths;

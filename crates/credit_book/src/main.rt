@@ -1,4 +1,7 @@
 // Runs the commands on standard input over a new book, and writes their lines to standard output.
+
+#![tactic(auto)]
+
 use book::Book;
 use collateral::cash::Cash;
 use collateral::guarantees::Guarantees;

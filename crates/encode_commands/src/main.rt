@@ -1,4 +1,7 @@
 // Reads commands as lines of text on standard input, and writes them as bytes to standard output.
+
+#![tactic(auto)]
+
 use command_text::{Expected, encode_line};
 use std::io;
 use std::io::{BufRead, BufReader, Write};

@@ -1,4 +1,7 @@
 // Writes a command as bytes, so that reading gives it back.
+
+#![tactic(auto)]
+
 ghost use Rattle.std.specs.Prelude.{◌≡◌, ◌≤◌, length};
 ghost use Rattle.encoder.specs.Encoding.{Encoded, one_byte_each};
 ghost use Rattle.command.specs.Meaning.{meaning_of};

@@ -1,4 +1,7 @@
 // The ledger: auctions with their stages and sheets, rights and accounts, put together.
+
+#![tactic(auto)]
+
 mod auctions;
 mod awarding;
 mod bidding;

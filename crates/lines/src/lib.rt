@@ -1,4 +1,7 @@
 // The line that answers a command, written into a lent part of the page.
+
+#![tactic(auto)]
+
 mod page;
 mod writer;
 

@@ -1,4 +1,7 @@
 // Rights to transmit, by hour, auction and participant.
+
+#![tactic(auto)]
+
 mod awards;
 mod cancels;
 mod cuts;

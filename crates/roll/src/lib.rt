@@ -1,4 +1,7 @@
 // Rolls: records of any kind that stand by an order of their own, in places that their owner lends.
+
+#![tactic(auto)]
+
 mod places;
 mod record;
 mod rolls;

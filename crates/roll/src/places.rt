@@ -8,7 +8,7 @@ use super::rolls::Roll;
 
 // The place behind all records that come first or are level with `x`.
 pub fn place_of<T: Ranked>(records: &[T], x: &T) -> usize
-    ensures value { result ≡ behind (λ y. first y x.now) records.now }
+    ensures value { result ≡ behind (λ y. T.first y x.now) records.now }
     ensures within { result ≤ length records.now }
 {
     let mut place = 0;
@@ -23,7 +23,7 @@ pub fn place_of<T: Ranked>(records: &[T], x: &T) -> usize
 // Puts `x` among the records in the first `n` places, behind those level with it.
 pub fn insert_in<T: Ranked>(places: &mut [T], n: usize, x: T)
     requires { n < length places.old }
-    ensures { places.new ≡ laid (inserted first x (take n places.old)) places.old }
+    ensures { places.new ≡ laid (inserted T.first x (take n places.old)) places.old }
 {
     let at = place_of(&places[0..n], &x);
     places[n] = x;
@@ -33,15 +33,15 @@ pub fn insert_in<T: Ranked>(places: &mut [T], n: usize, x: T)
 impl<T: Ranked> Roll<'_, T> {
     // Puts `x` behind those level with it, unless no place is free.
     pub fn insert(&mut self, x: T) -> bool
-        requires { self.old.len ≤ length (row_of self) }
-        ensures value { result ≡ has_room self.entry }
-        ensures list { list_of self.exit ≡ (if result then inserted first x (list_of self.entry) else list_of self.entry) }
-        ensures row { row_of self.exit ≡ (if result then laid (inserted first x (list_of self.entry)) (row_of self.entry) else row_of self.entry) }
+        requires { self.old.len ≤ length (row_of self.old) }
+        ensures value { result ≡ has_room self.old }
+        ensures list { list_of self.new ≡ (if result then inserted T.first x (list_of self.old) else list_of self.old) }
+        ensures row { row_of self.new ≡ (if result then laid (inserted T.first x (list_of self.old)) (row_of self.old) else row_of self.old) }
         ensures len { self.new.len ≡ (if result then self.old.len + 1 else self.old.len) }
-        ensures size { length (row_of self.exit) ≡ length (row_of self.entry) }
-        ensures room { self.new.len ≤ length (row_of self.exit) }
-        ensures order { Ordered first (list_of self.entry) → Ordered first (list_of self.exit) }
-        ensures level { result ≡ true → Arrived first x (list_of self.entry) (list_of self.exit) }
+        ensures size { length (row_of self.new) ≡ length (row_of self.old) }
+        ensures room { self.new.len ≤ length (row_of self.new) }
+        ensures order { Ordered T.first (list_of self.old) → Ordered T.first (list_of self.new) }
+        ensures level { result ≡ true → Arrived T.first x (list_of self.old) (list_of self.new) }
         ensures lender { self.new.places.ghost_name ≡ self.old.places.ghost_name }
     {
         let n = self.len;
@@ -67,12 +67,12 @@ pub(crate) fn close_up<T: Copy>(places: &mut [T], n: usize, gone: usize)
 impl<T: Copy> Roll<'_, T> {
     // Takes the first `gone` records out.
     pub fn remove_front(&mut self, gone: usize)
-        requires { (gone ≤ self.old.len) × (self.old.len ≤ length (row_of self)) }
-        ensures list { list_of self.exit ≡ drop gone (list_of self.entry) }
-        ensures row { row_of self.exit ≡ laid (drop gone (list_of self.entry)) (row_of self.entry) }
+        requires { (gone ≤ self.old.len) × (self.old.len ≤ length (row_of self.old)) }
+        ensures list { list_of self.new ≡ drop gone (list_of self.old) }
+        ensures row { row_of self.new ≡ laid (drop gone (list_of self.old)) (row_of self.old) }
         ensures len { self.new.len ≡ self.old.len - gone }
-        ensures size { length (row_of self.exit) ≡ length (row_of self.entry) }
-        ensures room { self.new.len ≤ length (row_of self.exit) }
+        ensures size { length (row_of self.new) ≡ length (row_of self.old) }
+        ensures room { self.new.len ≤ length (row_of self.new) }
         ensures lender { self.new.places.ghost_name ≡ self.old.places.ghost_name }
     {
         let n = self.len;

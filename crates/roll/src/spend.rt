@@ -11,7 +11,7 @@ use super::rolls::Roll;
 
 // What a sum would leave over along the records.
 pub fn left_over<T: Spendable>(records: &[T], sum: u64) -> u64
-    ensures { result ≡ sum - sum_of amount records.now }
+    ensures { result ≡ sum - sum_of T.amount records.now }
 {
     let mut left = sum;
     for x in records {
@@ -22,7 +22,7 @@ pub fn left_over<T: Spendable>(records: &[T], sum: u64) -> u64
 
 // How many records a sum empties, and what is left of it then.
 fn emptied<T: Spendable>(records: &[T], sum: u64) -> (usize, u64)
-    ensures { Emptied amount lowered sum records.now result.0 result.1 }
+    ensures { Emptied T.amount T.lowered sum records.now result.0 result.1 }
 {
     let mut rest = sum;
     for (i, x) in records.iter().enumerate() {
@@ -38,9 +38,9 @@ fn emptied<T: Spendable>(records: &[T], sum: u64) -> (usize, u64)
 // Spends a sum along the first `n` places: how many still hold records, and what is left of the sum.
 pub fn spend_in<T: Spendable>(places: &mut [T], n: usize, sum: u64) -> (usize, u64)
     requires { n ≤ length places.old }
-    ensures after { places.new ≡ laid (spent amount lowered sum (take n places.old)) places.old }
-    ensures len { result.0 ≡ length (spent amount lowered sum (take n places.old)) }
-    ensures left { result.1 ≡ sum - sum_of amount (take n places.old) }
+    ensures after { places.new ≡ laid (spent T.amount T.lowered sum (take n places.old)) places.old }
+    ensures len { result.0 ≡ length (spent T.amount T.lowered sum (take n places.old)) }
+    ensures left { result.1 ≡ sum - sum_of T.amount (take n places.old) }
 {
     let (gone, left) = emptied(&places[0..n], sum);
     close_up(places, n, gone);
@@ -55,16 +55,16 @@ pub fn spend_in<T: Spendable>(places: &mut [T], n: usize, sum: u64) -> (usize, u
 impl<T: Spendable> Roll<'_, T> {
     // Spends a sum along the roll: the sum spent and the sum left over.
     pub fn spend(&mut self, sum: u64) -> (u64, u64)
-        requires { self.old.len ≤ length (row_of self) }
-        ensures value { result ≡ (min sum (sum_of amount (list_of self.entry)), sum - sum_of amount (list_of self.entry)) }
-        ensures list { list_of self.exit ≡ spent amount lowered sum (list_of self.entry) }
-        ensures row { row_of self.exit ≡ laid (spent amount lowered sum (list_of self.entry)) (row_of self.entry) }
-        ensures len { self.new.len ≡ length (spent amount lowered sum (list_of self.entry)) }
+        requires { self.old.len ≤ length (row_of self.old) }
+        ensures value { result ≡ (min sum (sum_of T.amount (list_of self.old)), sum - sum_of T.amount (list_of self.old)) }
+        ensures list { list_of self.new ≡ spent T.amount T.lowered sum (list_of self.old) }
+        ensures row { row_of self.new ≡ laid (spent T.amount T.lowered sum (list_of self.old)) (row_of self.old) }
+        ensures len { self.new.len ≡ length (spent T.amount T.lowered sum (list_of self.old)) }
         ensures parts { result.0 + result.1 ≡ sum }
-        ensures balance { sum_of amount (list_of self.entry) ≡ sum_of amount (list_of self.exit) + result.0 }
-        ensures size { length (row_of self.exit) ≡ length (row_of self.entry) }
-        ensures room { self.new.len ≤ length (row_of self.exit) }
-        ensures order { Ordered T.Ranked.first (list_of self.entry) → Ordered T.Ranked.first (list_of self.exit) }
+        ensures balance { sum_of T.amount (list_of self.old) ≡ sum_of T.amount (list_of self.new) + result.0 }
+        ensures size { length (row_of self.new) ≡ length (row_of self.old) }
+        ensures room { self.new.len ≤ length (row_of self.new) }
+        ensures order { Ordered T.Ranked.first (list_of self.old) → Ordered T.Ranked.first (list_of self.new) }
         ensures lender { self.new.places.ghost_name ≡ self.old.places.ghost_name }
     {
         let n = self.len;

@@ -1,4 +1,7 @@
 // The rules of the book: what each call answers and leaves, and the law over all histories of calls (specs/).
+
+#![tactic(auto)]
+
 mod answers;
 mod refusals;
 mod worked;

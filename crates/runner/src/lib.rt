@@ -1,4 +1,7 @@
 // Runs a command file over a book: bytes in, lines out.
+
+#![tactic(auto)]
+
 mod answers;
 mod calls;
 mod files;

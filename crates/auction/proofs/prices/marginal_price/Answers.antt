@@ -9,11 +9,11 @@ use Rattle.auction.proofs.prices.marginal_price.Goals as goal
 pub loop-s-preserved : goal.loop-s-preserved
 loop-s-preserved c =
     most_step (λ s. most_of (reaching_price c.args.capacity (kept_lists c.args.sheets.now)) (kept_of s)) c.args.sheets.now c.loop-s.s-index _
-    c.loop-s.top c.top-price.result _ (omega arith) c.loop-s.invariant
-    (c.top-price.ensures ∙ ap (most_of (reaching_price c.args.capacity (kept_lists c.args.sheets.now))) c.kept-bids.ensures.value) c.max-top.ensures
+    c.loop-s.top c.top_price.result _ (omega arith) c.loop-s.invariant
+    (c.top_price.ensures ∙ ap (most_of (reaching_price c.args.capacity (kept_lists c.args.sheets.now))) c.kept_bids.ensures.value) c.max-top.ensures
 
-pub returns-then-total-from-from : goal.returns-then-total-from-from
-returns-then-total-from-from c =
+pub returns-then-total_from-from : goal.returns-then-total_from-from
+returns-then-total_from-from c =
     let e : 0 ≡ price_of c.args.capacity (kept_lists c.args.sheets.now) =
     sym (price_enough c.args.capacity (kept_lists c.args.sheets.now) (omega (arith, total_zero (kept_lists c.args.sheets.now)))) in
     record { value = e; clears = rw e (price_clears c.args.capacity (kept_lists c.args.sheets.now)) }

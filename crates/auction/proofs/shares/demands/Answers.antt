@@ -9,7 +9,7 @@ pub loop-i-preserved : goal.loop-i-preserved
 loop-i-preserved c = (
   simp length-set c.loop-i.invariant.0,
   map_step (λ s. demand_of c.args.price (kept_of s)) c.args.sheets.now c.loop-i.all c.loop-i.i _ c.of.result (omega arith) (omega arith) c.loop-i.invariant.1
-      (c.of.ensures ∙ ap (demand_of c.args.price) c.kept-bids.ensures.value),
+      (c.of.ensures ∙ ap (demand_of c.args.price) c.kept_bids.ensures.value),
 )
 
 pub returns : goal.returns

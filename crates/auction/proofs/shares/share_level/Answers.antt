@@ -7,8 +7,8 @@ use Rattle.auction.proofs.shares.share_level.Goals as goal
 pub loop-fits-init : goal.loop-fits-init
 loop-fits-init c = (omega arith, level_within c.args.remaining (map at_of c.args.demands.now), omega arith)
 
-pub loop-fits-preserved-then-total-shares-remaining : goal.loop-fits-preserved-then-total-shares-remaining
-loop-fits-preserved-then-total-shares-remaining c = (
+pub loop-fits-preserved-then-total_shares-remaining : goal.loop-fits-preserved-then-total_shares-remaining
+loop-fits-preserved-then-total_shares-remaining c = (
   level_reached c.args.remaining (map at_of c.args.demands.now) (c.loop-fits.most - (c.loop-fits.most - c.loop-fits.fits) / 2) (omega arith) (omega arith),
   c.loop-fits.invariant.1,
   c.loop-fits.invariant.2,

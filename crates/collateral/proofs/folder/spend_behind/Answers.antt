@@ -17,6 +17,6 @@ returns c =
     let e : spent sum_in at_sum c.args.sum (take (n - g) (take (length p - g) (drop g p))) ≡ left = ap (spent sum_in at_sum c.args.sum) part in
     let size = ap length e in
     record {
-      value = omega (arith, c.spend-along.ensures.value, length-append (take g (take n p)) left, length-take g (take n p), length-take n p);
-      after = put_behind p _ left g n c.requires.0 c.requires.1 (c.spend-along.ensures.after ∙ ap (λ z. laid z (take (length p - g) (drop g p))) e);
+      value = omega (arith, c.spend_along.ensures.value, length-append (take g (take n p)) left, length-take g (take n p), length-take n p);
+      after = put_behind p _ left g n c.requires.0 c.requires.1 (c.spend_along.ensures.after ∙ ap (λ z. laid z (take (length p - g) (drop g p))) e);
     }

@@ -16,4 +16,4 @@ front_part at n m s (Some y) h e k =
     (omega arith, k.same ∙ ap (take n) w)
 
 pub returns : goal.returns
-returns c = front_part 4 48 52 c.args.input.now c.first-chunk.result c.if-input-lt4.false (omega arith) c.first-chunk.ensures.cases
+returns c = front_part 4 48 52 c.args.input.now c.first_chunk.result c.if-input-lt4.false (omega arith) c.first_chunk.ensures.cases

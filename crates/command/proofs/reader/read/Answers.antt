@@ -4,8 +4,8 @@ use Rattle.std.proofs.lemmas.List.{take_rest}
 use Rattle.command.proofs.Onward.{reads, sized}
 use Rattle.command.proofs.reader.read.Goals as goal
 
-pub overflow-add-result : goal.overflow-add-result
-overflow-add-result c =
+pub overflow_add-result : goal.overflow_add-result
+overflow_add-result c =
     let s = c.args.input.now in
     let k = sized s c.args.place _ _ (take_rest s c.args.place) c.in-Ok.ensures in
     omega arith

@@ -5,35 +5,35 @@ use Rattle.command_text.specs.Words.{past_digits, value_on}
 use Rattle.command_text.proofs.Fronts.{value_step, value_stop, digits_step, digits_stop, grows}
 use Rattle.command_text.proofs.words.number.Goals as goal
 
-pub returns-then-not-is-digit-2 : goal.returns-then-not-is-digit-2
-returns-then-not-is-digit-2 c =
+pub returns-then-not-is_digit-2 : goal.returns-then-not-is_digit-2
+returns-then-not-is_digit-2 c =
     let s = c.args.text.now in
     let i = c.loop-i.i in
-    let stop = sym c.if-not-is-digit-2.ensures in
+    let stop = sym c.if-not-is_digit-2.ensures in
     record {
       some = c.loop-i.invariant.0;
       value = sym (value_stop s i (omega arith) c.loop-i.value stop) ∙ c.loop-i.invariant.1;
       behind = take_rest s i ∙ sym (digits_stop s i (omega arith) stop) ∙ c.loop-i.invariant.2;
     }
 
-pub returns-in-err-value : goal.returns-in-err-value
-returns-in-err-value c =
+pub returns-in_err-value : goal.returns-in_err-value
+returns-in_err-value c =
     let s = c.args.text.now in
     let i = c.loop-i.i in
     let next = c.loop-i.value * 10 + (get_or s i 0 - 48) in
-    let step = value_step s i (omega arith) c.loop-i.value (sym c.if-not-is-digit-2.ensures) in
+    let step = value_step s i (omega arith) c.loop-i.value (sym c.if-not-is_digit-2.ensures) in
     let more = grows (drop (i + 1) s) next in
     let all = c.loop-i.invariant.1 in
-    let past : 2 ^ 64 ≤ value_on 0 s = omega (arith, c.in-err-value.ensures) in
+    let past : 2 ^ 64 ≤ value_on 0 s = omega (arith, c.in_err-value.ensures) in
     rw c.from-residual.ensures (λ _. past)
 
 pub loop-i-preserved : goal.loop-i-preserved
 loop-i-preserved c =
     let s = c.args.text.now in
     let i = c.loop-i.i in
-    let digit = sym c.if-not-is-digit-2.ensures in (
+    let digit = sym c.if-not-is_digit-2.ensures in (
       c.loop-i.invariant.0,
-      ap (λ v. value_on v (drop (i + 1) s)) c.in-ok-value.ensures.1 ∙ sym (value_step s i (omega arith) c.loop-i.value digit) ∙ c.loop-i.invariant.1,
+      ap (λ v. value_on v (drop (i + 1) s)) c.in_ok-value.ensures.1 ∙ sym (value_step s i (omega arith) c.loop-i.value digit) ∙ c.loop-i.invariant.1,
       sym (digits_step s i (omega arith) digit) ∙ c.loop-i.invariant.2,
     )
 

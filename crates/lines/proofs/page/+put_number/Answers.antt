@@ -3,8 +3,8 @@ use Rattle.std.proofs.lemmas.Fmt.{decimal_digit, decimal_step}
 use Rattle.lines.proofs.Lay.{laid_laid}
 use Rattle.lines.proofs.page.+put_number.Goals as goal
 
-pub put-text-requires : goal.put-text-requires
-put-text-requires t c = search (rules, decimal_digit)
+pub put_text-requires : goal.put_text-requires
+put_text-requires t c = search (rules, decimal_digit)
 
 pub returns-then-n-lt10 : goal.returns-then-n-lt10
 returns-then-n-lt10 t c = search (rules, decimal_digit)
@@ -12,11 +12,11 @@ returns-then-n-lt10 t c = search (rules, decimal_digit)
 longer : (n : ℕ) → 10 ≤ n → n < 2 ^ 64 → length (decimal n) ≡ length (decimal (n / 10)) + 1
 longer n h k = simp length-append at (ap length (decimal_step n h k))
 
-pub put-number-last-requires : goal.put-number-last-requires
-put-number-last-requires t c = search (rules, longer)
+pub put_number-last-requires : goal.put_number-last-requires
+put_number-last-requires t c = search (rules, longer)
 
-pub put-text-requires-2 : goal.put-text-requires-2
-put-text-requires-2 t c = search (rules, longer)
+pub put_text-requires-2 : goal.put_text-requires-2
+put_text-requires-2 t c = search (rules, longer)
 
 pub returns : goal.returns
 returns t c = search (rules, longer, decimal_step, laid_laid)

@@ -4,13 +4,13 @@ use Rattle.roll.specs.Rows.{each_with}
 use Rattle.roll.proofs.Rows.{with_rest, with_step}
 use Rattle.rights.proofs.cancels.restore_hour.Goals as goal
 
-pub restore-row-requires : goal.restore-row-requires
-restore-row-requires c =
+pub restore_row-requires : goal.restore_row-requires
+restore_row-requires c =
     let own : get_or c.loop-a.hour.rows c.loop-a.a [] ≡ get_or c.args.hour.now.rows c.loop-a.a [] = rw c.loop-a.invariant (with_rest _ c.args.waiting.now.rows c.args.hour.now.rows [] c.loop-a.a) in
     rw own (c.requires c.loop-a.a)
 
 pub loop-a-preserved : goal.loop-a-preserved
-loop-a-preserved c = with_step (each_with (λ back mw. mw + back)) c.args.waiting.now.rows c.args.hour.now.rows c.loop-a.hour.rows [] [] c.loop-a.a _ (omega arith) c.loop-a.invariant c.restore-row.ensures
+loop-a-preserved c = with_step (each_with (λ back mw. mw + back)) c.args.waiting.now.rows c.args.hour.now.rows c.loop-a.hour.rows [] [] c.loop-a.a _ (omega arith) c.loop-a.invariant c.restore_row.ensures
 
 pub returns : goal.returns
 returns c = search (rules, take_all)

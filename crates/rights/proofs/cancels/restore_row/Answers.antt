@@ -4,8 +4,8 @@ use Rattle.roll.proofs.Rows.{with_rest, with_step}
 use Rattle.rights.proofs.Bounds.{at_le_sum}
 use Rattle.rights.proofs.cancels.restore_row.Goals as goal
 
-pub overflow-add-row : goal.overflow-add-row
-overflow-add-row c =
+pub overflow_add-row : goal.overflow_add-row
+overflow_add-row c =
     let own : get_or c.loop-p.row c.loop-p.p 0 ≡ get_or c.args.row.now c.loop-p.p 0 = rw c.loop-p.invariant (with_rest _ c.args.back.now c.args.row.now 0 c.loop-p.p) in
     omega (arith, c.requires, at_le_sum c.args.row.now c.loop-p.p, at_le_sum c.args.back.now c.loop-p.p)
 

@@ -4,8 +4,8 @@ use Rattle.roll.proofs.Rows.{with_rest, with_step}
 use Rattle.rights.proofs.Bounds.{set_at_most}
 use Rattle.rights.proofs.returns.add_row.Goals as goal
 
-pub overflow-add-sums : goal.overflow-add-sums
-overflow-add-sums c =
+pub overflow_add-sums : goal.overflow_add-sums
+overflow_add-sums c =
     let own : get_or c.loop-p.sums c.loop-p.p 0 ≡ get_or c.args.sums.now c.loop-p.p 0 = rw c.loop-p.invariant.0 (with_rest _ c.args.row.now c.args.sums.now 0 c.loop-p.p) in
     omega (arith, c.requires c.loop-p.p)
 

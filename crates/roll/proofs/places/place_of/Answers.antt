@@ -9,8 +9,8 @@ loop-i-preserved g c =
     let e = behind_more (λ y. g.T.Ranked.first y c.args.x.now) c.args.records.now c.loop-i.i c.loop-i.place _ c.loop-i-test.true c.index-records-i.is in
     let i = c.loop-i.i in
     let place = c.loop-i.place in
-    let t : cond (g.T.Ranked.first c.index-records-i.result c.args.x.now) (i + 1) place ≡ c.if-comes-first.place =
-    elim c.if-comes-first.branch [ goal.then-comes-first w ↦ search rules | goal.else-comes-first w ↦ search rules ] in
+    let t : cond (g.T.Ranked.first c.index-records-i.result c.args.x.now) (i + 1) place ≡ c.if-comes_first.place =
+    elim c.if-comes_first.branch [ goal.then-comes_first w ↦ search rules | goal.else-comes_first w ↦ search rules ] in
     cc
 
 pub returns : goal.returns

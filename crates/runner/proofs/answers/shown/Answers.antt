@@ -4,6 +4,6 @@ use Rattle.runner.proofs.answers.shown.Goals as goal
 
 pub returns : goal.returns
 returns g c = record {
-  value = ap Ok c.numbers.ensures.value ∙ sym (ap (reply_shown g.A.Answer.shows) c.in-ok-reply.was);
-  room = λ h. c.numbers.ensures.room (subst (Fitting g.A.Answer.fits) c.in-ok-reply.was h);
+  value = ap Ok c.numbers.ensures.value ∙ sym (ap (reply_shown g.A.Answer.shows) c.in_ok-reply.was);
+  room = λ h. c.numbers.ensures.room (subst (Fitting g.A.Answer.fits) c.in_ok-reply.was h);
 }

@@ -8,8 +8,8 @@ loop-book-init g c = (no_command, omega arith)
 
 pub loop-book-preserved : goal.loop-book-preserved
 loop-book-preserved g c = (
-  one_more _ _ _ _ _ _ c.loop-book.invariant.0 (sym c.loop-book-test.ensures) c.run-one-ran.ensures.value,
-  omega (arith, c.run-one-ran.ensures.within c.loop-book.invariant.1, c.run-one-ran.auto.page),
+  one_more _ _ _ _ _ _ c.loop-book.invariant.0 (sym c.loop-book-test.ensures) c.run_one-ran.ensures.value,
+  omega (arith, c.run_one-ran.ensures.within c.loop-book.invariant.1, c.run_one-ran.auto.page),
 )
 
 pub returns : goal.returns

@@ -4,20 +4,20 @@ use Rattle.runner.specs.Running.{OnwardTo, is_refused}
 use Rattle.runner.proofs.Tasks.{answered, page_ends, refused_rests, room_there, runs_as, same_outcome, wrote_nothing}
 use Rattle.runner.proofs.running.run_one.Goals as goal
 
-pub returns-then-saturating-sub-lt-LINE-ROOM : goal.returns-then-saturating-sub-lt-LINE-ROOM
-returns-then-saturating-sub-lt-LINE-ROOM g c = record {
+pub returns-then-saturating_sub-lt-LINE_ROOM : goal.returns-then-saturating_sub-lt-LINE_ROOM
+returns-then-saturating_sub-lt-LINE_ROOM g c = record {
   value = runs_as _ _ _ _ _ _ _ _ _ (page_ends c.args.input.now c.args.place c.args.page.now c.args.at (omega arith)) (wrote_nothing _ _ _ _, refl);
   refused = λ h. refl;
   within = λ h. h;
   onward = search rules;
 }
 
-pub returns-in-default : goal.returns-in-default
-returns-in-default g c = record {
+pub returns-in_default : goal.returns-in_default
+returns-in_default g c = record {
   value =
       runs_as _ _ _ _ _ _ _ _ _
       (room_there c.args.input.now c.args.place c.args.page.now c.args.at (omega arith)
-      ∙ (sym c.in-Ok.ensures.value ∙ ap (λ n. task_of (Ok n)) c.in-default.is))
+      ∙ (sym c.in-Ok.ensures.value ∙ ap (λ n. task_of (Ok n)) c.in_default.is))
       (wrote_nothing _ _ _ _, refl);
   refused = λ h. refl;
   within = λ h. h;
@@ -25,7 +25,7 @@ returns-in-default g c = record {
 }
 
 pub say-requires : goal.say-requires
-say-requires g c = omega (arith, c.answer-line-line.ensures.room c.perform-answer.ensures.room)
+say-requires g c = omega (arith, c.answer_line-line.ensures.room c.perform-answer.ensures.room)
 
 pub returns : goal.returns
 returns g c =
@@ -35,7 +35,7 @@ returns g c =
           runs_as _ _ _ _ _ _ _ _ _
           (room_there c.args.input.now c.args.place c.args.page.now c.args.at (omega arith)
           ∙ (sym c.in-Ok.ensures.value ∙ ap (λ n. task_of (Ok n)) c.in-Some.is))
-          (answered _ _ _ _ _ _ c.perform-answer.result c.letter.result c.answer-line-line.result _ _ c.letter.ensures p c.answer-line-line.ensures.value c.outcome.ensures c.say.ensures.after c.say.ensures.value);
+          (answered _ _ _ _ _ _ c.perform-answer.result c.letter.result c.answer_line-line.result _ _ c.letter.ensures p c.answer_line-line.ensures.value c.outcome.ensures c.say.ensures.after c.say.ensures.value);
       refused = λ h. refused_rests _ _ p.reply _ p.step (sym (ap is_refused (c.outcome.ensures ∙ same_outcome _ _ p.reply p.shows)) ∙ h);
       within = λ h. c.say.ensures.within;
       onward = λ h. subst (λ n. OnwardTo (task_of (Ok n)) c.args.place c.args.input.now) c.in-Some.is c.in-Ok.ensures.within;

@@ -16,8 +16,8 @@ returns c =
     let s : Sheet = c.args.self.now in
     let d : Product = c.args.product in
     let front : List Bid = kept_front c.args.limit d (bids_of s) in
-    let k : c.kept-count-self.result ≡ kept_count c.args.limit d (bids_of s) = cc in
-    let w : c.worst-charge-self.result ≡ worst_charge d front = cc in
+    let k : c.kept_count-self.result ≡ kept_count c.args.limit d (bids_of s) = cc in
+    let w : c.worst_charge-self.result ≡ worst_charge d front = cc in
     record {
       after = cc;
       longest = subst (LongestFront c.args.limit d (bids_of s)) (sym k) (longest_front c.args.limit d (bids_of s));

@@ -6,18 +6,18 @@ use Rattle.book.proofs.Again.{again}
 use Rattle.rules.proofs.Granted.{stage_sealed}
 use Rattle.book.proofs.books.Book.award.Goals as goal
 
-pub is-sealed-requires : goal.is-sealed-requires
-is-sealed-requires g c = let s = sound_held c.args.self.now.sound in (omega arith, omega (arith, s.auctions.opened))
+pub is_sealed-requires : goal.is_sealed-requires
+is_sealed-requires g c = let s = sound_held c.args.self.now.sound in (omega arith, omega (arith, s.auctions.opened))
 
 pub award-outcome-requires : goal.award-outcome-requires
 award-outcome-requires g c =
     let s = sound_held c.args.self.now.sound in
     record {
-      place = (omega arith, (omega (arith, s.auctions.opened), stage_sealed (auction_at c.args.self.now.ledger c.args.a).stage (ap not (sym c.is_sealed.ensures ∙ c.if-not-is-sealed.false))));
+      place = (omega arith, (omega (arith, s.auctions.opened), stage_sealed (auction_at c.args.self.now.ledger c.args.a).stage (ap not (sym c.is_sealed.ensures ∙ c.if-not-is_sealed.false))));
       sound = s;
     }
 
-pub invariant-of-self : goal.invariant-of-self
-invariant-of-self g c =
-    let sealed = stage_sealed (auction_at c.args.self.now.ledger c.args.a).stage (ap not (sym c.is_sealed.ensures ∙ c.if-not-is-sealed.false)) in
+pub invariant_of-self : goal.invariant_of-self
+invariant_of-self g c =
+    let sealed = stage_sealed (auction_at c.args.self.now.ledger c.args.a).stage (ap not (sym c.is_sealed.ensures ∙ c.if-not-is_sealed.false)) in
     (again c.award-outcome.new.self c.award-outcome.ensures.after (sound_award c.args.a c.args.self.now.ledger (sound_held c.args.self.now.sound) (omega arith) (omega arith) sealed), tt)

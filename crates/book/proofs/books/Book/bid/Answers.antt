@@ -17,8 +17,8 @@ use Rattle.book.proofs.Again.{again}
 use Rattle.rules.proofs.Granted.{granted_value, open_if}
 use Rattle.book.proofs.books.Book.bid.Goals as goal
 
-pub is-open-requires : goal.is-open-requires
-is-open-requires g c = let s = sound_held c.args.self.now.sound in (omega arith, omega (arith, s.auctions.opened))
+pub is_open-requires : goal.is_open-requires
+is_open-requires g c = let s = sound_held c.args.self.now.sound in (omega arith, omega (arith, s.auctions.opened))
 
 pub bounds-self-a : goal.bounds-self-a
 bounds-self-a g c = let s = sound_held c.args.self.now.sound in omega (arith, s.auctions.opened)
@@ -26,21 +26,21 @@ bounds-self-a g c = let s = sound_held c.args.self.now.sound in omega (arith, s.
 pub bounds-self-a-2 : goal.bounds-self-a-2
 bounds-self-a-2 g c = let s = sound_held c.args.self.now.sound in omega (arith, s.auctions.opened)
 
-pub mw-bid-requires : goal.mw-bid-requires
-mw-bid-requires g c = let s = sound_held c.args.self.now.sound in (omega arith, (omega arith, (omega arith, omega (arith, s.auctions.opened))))
+pub mw_bid-requires : goal.mw_bid-requires
+mw_bid-requires g c = let s = sound_held c.args.self.now.sound in (omega arith, (omega arith, (omega arith, omega (arith, s.auctions.opened))))
 
 pub bid-requires : goal.bid-requires
 bid-requires g c =
     let s = sound_held c.args.self.now.sound in
     record { who = (omega arith, (omega arith, (omega arith, omega (arith, s.auctions.opened)))); place = (omega arith, omega (arith, receipts_few c.args.self.now.ledger s.auctions)) }
 
-pub worst-charge-requires : goal.worst-charge-requires
-worst-charge-requires g c = let s = sound_held c.args.self.now.sound in (omega arith, (omega arith, (omega arith, omega (arith, s.auctions.opened))))
+pub worst_charge-requires : goal.worst_charge-requires
+worst_charge-requires g c = let s = sound_held c.args.self.now.sound in (omega arith, (omega arith, (omega arith, omega (arith, s.auctions.opened))))
 
-pub invariant-of-self : goal.invariant-of-self
-invariant-of-self g c =
+pub invariant_of-self : goal.invariant_of-self
+invariant_of-self g c =
     let s = sound_held c.args.self.now.sound in
-    let entered : is_open (auction_at c.args.self.now.ledger c.args.a).stage ≡ true = sym c.is-open.ensures ∙ c.if-not-is-open.false in (
+    let entered : is_open (auction_at c.args.self.now.ledger c.args.a).stage ≡ true = sym c.is_open.ensures ∙ c.if-not-is_open.false in (
       again c.bid.new.self c.bid.ensures
           (sound_bid c.args.p c.args.a (bid_of c.args.price c.args.mw) c.args.self.now.ledger s (omega arith) (omega arith) (omega arith) (omega arith) (open_if _ entered) (omega arith, omega arith, omega arith) (omega arith) (omega arith)),
       tt,
@@ -51,7 +51,7 @@ returns g c =
     let s = sound_held c.args.self.now.sound in
     let l : Ledger = c.args.self.now.ledger in
     let b : Bid = bid_of c.args.price c.args.mw in
-    let entered : is_open (auction_at l c.args.a).stage ≡ true = sym c.is-open.ensures ∙ c.if-not-is-open.false in
+    let entered : is_open (auction_at l c.args.a).stage ≡ true = sym c.is_open.ensures ∙ c.if-not-is_open.false in
     let shows = bid_shows c.args.p c.args.a b l s.auctions (omega arith) (omega arith) (omega arith) (omega arith) in
     let ok : passes (bid_table c.args.p c.args.a c.args.price c.args.mw l) ≡ true = grind (arith, nat_tests) in
     let after = c.bid.ensures in
@@ -61,9 +61,9 @@ returns g c =
     c.worst_charge.ensures
     ∙ (ap (λ (k : Ledger). worst_charge (auction_at k c.args.a).product (bids_of (sheet_at k c.args.a c.args.p))) after
     ∙ (ap (λ d. worst_charge d (bids_of (sheet_at m c.args.a c.args.p))) shows.0 ∙ ap (λ t. worst_charge (auction_at l c.args.a).product (bids_of t)) shows.1)) in
-    let q = c.limit-of-limit.ensures.value in
-    let v : Receipt = record { number = l.receipts + 1; worst = worst_charge (auction_at l c.args.a).product (bids_of (with_bid b (sheet_at l c.args.a c.args.p))); limit = c.limit-of-limit.result } in
-    let same : ◌≡◌ {A = Receipt} (record { number = c.bid.new.self.receipts; worst = c.worst_charge.result; limit = c.limit-of-limit.result }) v = cc in
+    let q = c.limit_of-limit.ensures.value in
+    let v : Receipt = record { number = l.receipts + 1; worst = worst_charge (auction_at l c.args.a).product (bids_of (with_bid b (sheet_at l c.args.a c.args.p))); limit = c.limit_of-limit.result } in
+    let same : ◌≡◌ {A = Receipt} (record { number = c.bid.new.self.receipts; worst = c.worst_charge.result; limit = c.limit_of-limit.result }) v = cc in
     record {
       answer = ap Ok (same ∙ cc) ∙ sym (granted_value (bid_table c.args.p c.args.a c.args.price c.args.mw l) _ ok);
       ledger = after ∙ ap (λ q. cond q (bid_placed c.args.p c.args.a b l) l) (sym ok);

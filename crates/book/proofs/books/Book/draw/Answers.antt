@@ -10,5 +10,5 @@ overdue-overdue-requires g c = (sound_held c.args.self.now.sound, (omega arith, 
 pub pay-requires : goal.pay-requires
 pay-requires g c = (omega arith, (omega arith, sound_held c.args.self.now.sound))
 
-pub invariant-of-self : goal.invariant-of-self
-invariant-of-self g c = (again c.pay.new.self c.pay.ensures.after (sound_payment c.args.p c.counted-drawn.result c.args.self.now.ledger (sound_held c.args.self.now.sound)), tt)
+pub invariant_of-self : goal.invariant_of-self
+invariant_of-self g c = (again c.pay.new.self c.pay.ensures.after (sound_payment c.args.p c.counted-drawn.result c.args.self.now.ledger (sound_held c.args.self.now.sound)), tt)

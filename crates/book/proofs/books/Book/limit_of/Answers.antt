@@ -4,5 +4,5 @@ use Rattle.book.proofs.books.Book.limit_of.Goals as goal
 pub owes-requires : goal.owes-requires
 owes-requires g c = (sound_held c.args.self.now.sound, (c.requires.0, c.requires.1))
 
-pub held-sums-requires : goal.held-sums-requires
-held-sums-requires g c = (sound_held c.args.self.now.sound, (c.requires.0, c.requires.1))
+pub held_sums-requires : goal.held_sums-requires
+held_sums-requires g c = (sound_held c.args.self.now.sound, (c.requires.0, c.requires.1))

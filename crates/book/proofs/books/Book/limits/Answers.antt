@@ -14,8 +14,8 @@ limit_more l cover limits p v lt twelve same e =
 
 pub loop-p-preserved : goal.loop-p-preserved
 loop-p-preserved g c = (
-  length-set c.loop-p.limits c.loop-p.p c.limit-of.result ∙ c.loop-p.invariant.0,
-  limit_more c.args.self.now.ledger (g.C.Collateral.cover c.args.self.now.collateral) c.loop-p.limits c.loop-p.p c.limit-of.result (omega arith) c.loop-p.invariant.0 c.loop-p.invariant.1 c.limit-of.ensures.value,
+  length-set c.loop-p.limits c.loop-p.p c.limit_of.result ∙ c.loop-p.invariant.0,
+  limit_more c.args.self.now.ledger (g.C.Collateral.cover c.args.self.now.collateral) c.loop-p.limits c.loop-p.p c.limit_of.result (omega arith) c.loop-p.invariant.0 c.loop-p.invariant.1 c.limit_of.ensures.value,
 )
 
 pub returns : goal.returns

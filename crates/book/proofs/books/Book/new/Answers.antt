@@ -3,8 +3,8 @@ use Rattle.rules.proofs.Directions.{directions_apart}
 use Rattle.rules.proofs.Promises.{always_sound, credit_law, refusals_change_nothing}
 use Rattle.book.proofs.books.Book.new.Goals as goal
 
-pub invariant-of-result : goal.invariant-of-result
-invariant-of-result g c = (∣ c.new.ensures.sound ∣₁, tt)
+pub invariant_of-result : goal.invariant_of-result
+invariant_of-result g c = (∣ c.new.ensures.sound ∣₁, tt)
 
 pub returns : goal.returns
 returns g c = record { ledger = search rules; collateral = search rules; law = credit_law; sound = always_sound; refusals = refusals_change_nothing; directions = directions_apart }

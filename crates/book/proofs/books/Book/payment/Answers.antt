@@ -4,11 +4,11 @@ use Rattle.ledger.proofs.Sounds.{sound_payment}
 use Rattle.book.proofs.Again.{again}
 use Rattle.book.proofs.books.Book.payment.Goals as goal
 
-pub still-open-requires : goal.still-open-requires
-still-open-requires g c = (sound_held c.args.self.now.sound, (omega arith, omega arith))
+pub still_open-requires : goal.still_open-requires
+still_open-requires g c = (sound_held c.args.self.now.sound, (omega arith, omega arith))
 
 pub pay-requires : goal.pay-requires
 pay-requires g c = (omega arith, (omega arith, sound_held c.args.self.now.sound))
 
-pub invariant-of-self : goal.invariant-of-self
-invariant-of-self g c = (again c.pay.new.self c.pay.ensures.after (sound_payment c.args.p c.args.sum c.args.self.now.ledger (sound_held c.args.self.now.sound)), tt)
+pub invariant_of-self : goal.invariant_of-self
+invariant_of-self g c = (again c.pay.new.self c.pay.ensures.after (sound_payment c.args.p c.args.sum c.args.self.now.ledger (sound_held c.args.self.now.sound)), tt)

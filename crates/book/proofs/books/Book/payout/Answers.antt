@@ -3,5 +3,5 @@ use Rattle.ledger.proofs.Sounds.{sound_payout}
 use Rattle.book.proofs.Again.{again}
 use Rattle.book.proofs.books.Book.payout.Goals as goal
 
-pub invariant-of-self : goal.invariant-of-self
-invariant-of-self g c = (again c.pay-out.new.self c.pay-out.ensures.after (sound_payout c.args.p c.args.self.now.ledger (sound_held c.args.self.now.sound)), tt)
+pub invariant_of-self : goal.invariant_of-self
+invariant_of-self g c = (again c.pay_out.new.self c.pay_out.ensures.after (sound_payout c.args.p c.args.self.now.ledger (sound_held c.args.self.now.sound)), tt)

@@ -23,30 +23,30 @@ use Rattle.book.proofs.books.Book.seal.Goals as goal
 sealed_there : (a : ℕ) (limits : List ℕ) (l : Ledger) → Sound l → 1 ≤ a → a ≤ l.opened → auction_at (auction_sealed a limits l) a ≡ sealed_at limits (auction_at l a)
 sealed_there a limits l s a1 a2 = get_or-set_same l.auctions (a - 1) (sealed_at limits (auction_at l a)) no_auction (omega (arith, s.auctions.rows, s.auctions.opened))
 
-pub is-open-requires : goal.is-open-requires
-is-open-requires g c = let s = sound_held c.args.self.now.sound in (omega arith, omega (arith, s.auctions.opened))
+pub is_open-requires : goal.is_open-requires
+is_open-requires g c = let s = sound_held c.args.self.now.sound in (omega arith, omega (arith, s.auctions.opened))
 
 pub seal-requires : goal.seal-requires
 seal-requires g c =
     let s = sound_held c.args.self.now.sound in
-    let entered : is_open (auction_at c.args.self.now.ledger c.args.a).stage ≡ true = sym c.is-open.ensures ∙ c.if-not-is-open.false in
+    let entered : is_open (auction_at c.args.self.now.ledger c.args.a).stage ≡ true = sym c.is_open.ensures ∙ c.if-not-is_open.false in
     (omega arith, (omega (arith, s.auctions.opened), open_if _ entered))
 
-pub invariant-of-self : goal.invariant-of-self
-invariant-of-self g c =
+pub invariant_of-self : goal.invariant_of-self
+invariant_of-self g c =
     let s = sound_held c.args.self.now.sound in
-    let entered : is_open (auction_at c.args.self.now.ledger c.args.a).stage ≡ true = sym c.is-open.ensures ∙ c.if-not-is-open.false in
+    let entered : is_open (auction_at c.args.self.now.ledger c.args.a).stage ≡ true = sym c.is_open.ensures ∙ c.if-not-is_open.false in
     (again c.seal.new.self c.seal.ensures (sound_seal c.args.a c.limits-limits.result c.args.self.now.ledger s (omega arith) (omega arith) (open_if _ entered) (ap length c.limits-limits.ensures)), tt)
 
-pub bids-kept-requires : goal.bids-kept-requires
-bids-kept-requires g c =
+pub bids_kept-requires : goal.bids_kept-requires
+bids_kept-requires g c =
     let s = sound_held c.args.self.now.sound in
     let there = ap (λ k. auction_at k c.args.a) c.seal.ensures ∙ sealed_there c.args.a c.limits-limits.result c.args.self.now.ledger s (omega arith) (omega arith) in
     let sealed = auction_seal c.limits-limits.result (auction_at c.args.self.now.ledger c.args.a) (at_number c.args.self.now.ledger c.args.a s.auctions (omega arith) (omega arith)) (ap length c.limits-limits.ensures) in
     (omega arith, (omega (arith, s.auctions.opened), (subst SoundAuction (sym there) sealed, ap (λ (x : Auction). x.stage) there)))
 
-pub bids-left-out-requires : goal.bids-left-out-requires
-bids-left-out-requires g c =
+pub bids_left_out-requires : goal.bids_left_out-requires
+bids_left_out-requires g c =
     let s = sound_held c.args.self.now.sound in
     let there = ap (λ k. auction_at k c.args.a) c.seal.ensures ∙ sealed_there c.args.a c.limits-limits.result c.args.self.now.ledger s (omega arith) (omega arith) in
     let sealed = auction_seal c.limits-limits.result (auction_at c.args.self.now.ledger c.args.a) (at_number c.args.self.now.ledger c.args.a s.auctions (omega arith) (omega arith)) (ap length c.limits-limits.ensures) in
@@ -57,7 +57,7 @@ returns g c =
     let s = sound_held c.args.self.now.sound in
     let l : Ledger = c.args.self.now.ledger in
     let limits : List ℕ = all_limits l (g.C.Collateral.cover c.args.self.now.collateral) in
-    let entered : is_open (auction_at l c.args.a).stage ≡ true = sym c.is-open.ensures ∙ c.if-not-is-open.false in
+    let entered : is_open (auction_at l c.args.a).stage ≡ true = sym c.is_open.ensures ∙ c.if-not-is_open.false in
     let found : c.limits-limits.result ≡ limits = c.limits-limits.ensures in
     let after : c.seal.new.self ≡ auction_sealed c.args.a limits l = c.seal.ensures ∙ ap (λ ns. auction_sealed c.args.a ns l) found in
     let there : auction_at c.seal.new.self c.args.a ≡ sealed_at limits (auction_at l c.args.a) = ap (λ k. auction_at k c.args.a) after ∙ sealed_there c.args.a limits l s (omega arith) (omega arith) in

@@ -4,14 +4,14 @@ use Rattle.ledger.proofs.Sounds.{sound_transfer}
 use Rattle.book.proofs.Again.{again}
 use Rattle.book.proofs.books.Book.transfer.Goals as goal
 
-pub is-awarded-requires : goal.is-awarded-requires
-is-awarded-requires g c = let s = sound_held c.args.self.now.sound in (omega arith, omega (arith, s.auctions.opened))
+pub is_awarded-requires : goal.is_awarded-requires
+is_awarded-requires g c = let s = sound_held c.args.self.now.sound in (omega arith, omega (arith, s.auctions.opened))
 
 pub delivers-requires : goal.delivers-requires
 delivers-requires g c = let s = sound_held c.args.self.now.sound in (omega arith, omega (arith, s.auctions.opened))
 
-pub holds-through-requires : goal.holds-through-requires
-holds-through-requires g c =
+pub holds_through-requires : goal.holds_through-requires
+holds_through-requires g c =
     let s = sound_held c.args.self.now.sound in
     record { who = (omega arith, (omega (arith, s.auctions.opened), (omega arith, omega arith))); span = omega arith }
 
@@ -21,13 +21,13 @@ transfer-requires g c =
     record {
       who = (omega arith, (omega arith, (omega arith, omega arith)));
       place = (omega arith, (omega (arith, s.auctions.opened), omega arith));
-      held = sym c.holds_through.ensures ∙ c.if-not-holds-through.false;
+      held = sym c.holds_through.ensures ∙ c.if-not-holds_through.false;
       sound = s;
     }
 
-pub invariant-of-self : goal.invariant-of-self
-invariant-of-self g c = (
+pub invariant_of-self : goal.invariant_of-self
+invariant_of-self g c = (
   again c.transfer.new.self c.transfer.ensures
-      (sound_transfer c.args.giver c.args.taker c.args.a c.args.first c.args.hours c.args.mw c.args.self.now.ledger (sound_held c.args.self.now.sound) (sym c.holds_through.ensures ∙ c.if-not-holds-through.false)),
+      (sound_transfer c.args.giver c.args.taker c.args.a c.args.first c.args.hours c.args.mw c.args.self.now.ledger (sound_held c.args.self.now.sound) (sym c.holds_through.ensures ∙ c.if-not-holds_through.false)),
   tt,
 )

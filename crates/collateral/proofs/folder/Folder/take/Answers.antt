@@ -6,8 +6,8 @@ use Rattle.collateral.specs.Guarantees.{folder_cover, sum_in}
 use Rattle.collateral.proofs.Folders.{folder_is, lent_is, used_is}
 use Rattle.collateral.proofs.folder.Folder.take.Goals as goal
 
-pub returns-then-left-over-gt0 : goal.returns-then-left-over-gt0
-returns-then-left-over-gt0 c =
+pub returns-then-left_over-gt0 : goal.returns-then-left_over-gt0
+returns-then-left_over-gt0 c =
     let f = c.args.self.now in
     let size : length f.places ≡ 4 = search rules in
     let lent = ap (sum_of sum_in) (lent_is f _ size c.held-n.ensures c.args.day _ c.past_of-gone.ensures.value) in
@@ -22,5 +22,5 @@ returns c =
     let left = used_is f _ size c.held-n.ensures c.args.day _ at c.args.sum in
     record {
       value = sym (le-leb c.args.sum (folder_cover f c.args.day) (omega arith));
-      after = folder_is _ _ _ _ (c.spend-behind-self.ensures.after ∙ ap (λ z. laid z f.places) left) (c.spend-behind-self.ensures.value ∙ ap length left);
+      after = folder_is _ _ _ _ (c.spend_behind-self.ensures.after ∙ ap (λ z. laid z f.places) left) (c.spend_behind-self.ensures.value ∙ ap length left);
     }

@@ -7,8 +7,8 @@ use Rattle.ledger.specs.Auctions.{no_sheet}
 use Rattle.ledger.proofs.Sheets.{kept_few}
 use Rattle.ledger.proofs.auctions.Auction.bids_kept.Goals as goal
 
-pub overflow-add-sum : goal.overflow-add-sum
-overflow-add-sum c = omega (arith, c.loop-sheet.invariant.1, kept_few c.args.self.now c.requires.0 c.requires.1 c.loop-sheet.sheet-index (omega arith))
+pub overflow_add-sum : goal.overflow_add-sum
+overflow_add-sum c = omega (arith, c.loop-sheet.invariant.1, kept_few c.args.self.now c.requires.0 c.requires.1 c.loop-sheet.sheet-index (omega arith))
 
 pub loop-sheet-preserved : goal.loop-sheet-preserved
 loop-sheet-preserved c =

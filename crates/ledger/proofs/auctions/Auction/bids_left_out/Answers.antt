@@ -6,8 +6,8 @@ use Rattle.auction.specs.declared.sheets.Sheet.{Sheet}
 use Rattle.ledger.specs.Auctions.{no_sheet}
 use Rattle.ledger.proofs.auctions.Auction.bids_left_out.Goals as goal
 
-pub overflow-add-sum : goal.overflow-add-sum
-overflow-add-sum c = omega (arith, c.loop-sheet.invariant.1, (c.requires.sheets c.loop-sheet.sheet-index (omega arith)).count)
+pub overflow_add-sum : goal.overflow_add-sum
+overflow_add-sum c = omega (arith, c.loop-sheet.invariant.1, (c.requires.sheets c.loop-sheet.sheet-index (omega arith)).count)
 
 pub loop-sheet-preserved : goal.loop-sheet-preserved
 loop-sheet-preserved c =

@@ -5,8 +5,8 @@ use Rattle.ledger.specs.Auctions.{held_in, no_auction}
 use Rattle.ledger.proofs.Owing.{held_within}
 use Rattle.ledger.proofs.ledgers.Ledger.held_sums.Goals as goal
 
-pub overflow-add-sum : goal.overflow-add-sum
-overflow-add-sum c = omega (arith, c.loop-auction.invariant.1, held_within (get_or c.args.self.now.auctions c.loop-auction.auction-index no_auction) (c.requires.0.auctions.each c.loop-auction.auction-index (omega arith)) (c.args.p - 1) (omega arith))
+pub overflow_add-sum : goal.overflow_add-sum
+overflow_add-sum c = omega (arith, c.loop-auction.invariant.1, held_within (get_or c.args.self.now.auctions c.loop-auction.auction-index no_auction) (c.requires.0.auctions.each c.loop-auction.auction-index (omega arith)) (c.args.p - 1) (omega arith))
 
 pub loop-auction-preserved : goal.loop-auction-preserved
 loop-auction-preserved c =

@@ -10,8 +10,8 @@ returns g c =
     let first = g.T.Ranked.first in
     let laws = g.met.T.Ranked in
     let x = c.args.x in
-    let was = list_of c.args.self in
-    let list = put_front first x _ _ _ c.if-n-self.false c.insert-in.ensures in
+    let was = list_of c.args.self.now in
+    let list = put_front first x _ _ _ c.if-n-self.false c.insert_in.ensures in
     record {
       value = search rules;
       list = list;
