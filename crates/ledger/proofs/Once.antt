@@ -1,6 +1,6 @@
 -- `Sound` has one proof at most, so that a ghost field may hold it.
 use std.HLevel.{Π_prop}
-use denote.Struct.Props.{≡_prop, three_prop}
+use denote.Struct.Props.{≡_prop}
 use denote.Struct.Record.{Also-prop, Done-prop}
 use base.Stored.{coded_bool, coded_ℕ}
 use native.Mathlib.Bridge.{le_prop}
@@ -34,7 +34,7 @@ ordered_once first [] = Done-prop
 ordered_once first (x ∷ xs) = Also-prop (heads_once first x xs) (λ _. ordered_once first xs)
 
 within_once : (c : ℕ) (bs : List Bid) → IsProp (Within c bs)
-within_once c bs = three_prop le_prop le_prop (all_once Lawful (λ b. three_prop le_prop le_prop le_prop) bs)
+within_once c bs = hlevel (le_prop, all_once Lawful (λ b. hlevel le_prop) bs)
 
 sheet_once : {c : ℕ} {s : Sheet} → IsProp (SoundSheet c s)
 sheet_once x y i = record {
