@@ -14,7 +14,7 @@ impl<C: Collateral> Book<C> {
     // The credit limit of a participant that is one.
     pub(crate) fn limit_of(&self, p: u8) -> u64
         requires { (1 ≤ p) × (p ≤ 12) }
-        ensures value { result ≡ limit (seen self.now.ledger (cover self.now.collateral) (verdict self.now.collateral)) p }
+        ensures value { result ≡ limit (seen self.now.ledger (C.cover self.now.collateral) (C.verdict self.now.collateral)) p }
         ensures within { result ≤ 1000000000000000 }
     {
         let counted = self.collateral.counted(p, self.ledger.day, MOST_COUNTED);
@@ -23,7 +23,7 @@ impl<C: Collateral> Book<C> {
 
     // A participant's credit limit today.
     pub fn limit(&self, p: u8) -> Result<u64, Refusal>
-        ensures { result ≡ limit_asked p (seen self.now.ledger (cover self.now.collateral) (verdict self.now.collateral)) }
+        ensures { result ≡ limit_asked p (seen self.now.ledger (C.cover self.now.collateral) (C.verdict self.now.collateral)) }
     {
         if p < 1 || p > 12 {
             return Err(Refusal::Participant);
@@ -33,7 +33,7 @@ impl<C: Collateral> Book<C> {
 
     // What a participant owes.
     pub fn debt(&self, p: u8) -> Result<u64, Refusal>
-        ensures { result ≡ debt_asked p (seen self.now.ledger (cover self.now.collateral) (verdict self.now.collateral)) }
+        ensures { result ≡ debt_asked p (seen self.now.ledger (C.cover self.now.collateral) (C.verdict self.now.collateral)) }
     {
         if p < 1 || p > 12 {
             return Err(Refusal::Participant);
@@ -43,7 +43,7 @@ impl<C: Collateral> Book<C> {
 
     // The sum held for a participant in an auction.
     pub fn held(&self, p: u8, a: u8) -> Result<u64, Refusal>
-        ensures { result ≡ held_asked p a (seen self.now.ledger (cover self.now.collateral) (verdict self.now.collateral)) }
+        ensures { result ≡ held_asked p a (seen self.now.ledger (C.cover self.now.collateral) (C.verdict self.now.collateral)) }
     {
         if p < 1 || p > 12 {
             return Err(Refusal::Participant);
@@ -56,7 +56,7 @@ impl<C: Collateral> Book<C> {
 
     // The MW that a participant holds of an auction in an hour.
     pub fn holding(&self, p: u8, a: u8, hour: u8) -> Result<u16, Refusal>
-        ensures { result ≡ holding_asked p a hour (seen self.now.ledger (cover self.now.collateral) (verdict self.now.collateral)) }
+        ensures { result ≡ holding_asked p a hour (seen self.now.ledger (C.cover self.now.collateral) (C.verdict self.now.collateral)) }
     {
         if p < 1 || p > 12 {
             return Err(Refusal::Participant);

@@ -31,7 +31,7 @@ impl<C: Collateral> Book<C> {
         hours: u8,
         capacity: u16,
     ) -> Result<u64, Refusal>
-        ensures { Step (open_auction from to first hours capacity) (seen self.old.ledger (cover self.old.collateral) (verdict self.old.collateral)) result (seen self.new.ledger (cover self.new.collateral) (verdict self.new.collateral)) }
+        ensures { Step (open_auction from to first hours capacity) (seen self.old.ledger (C.cover self.old.collateral) (C.verdict self.old.collateral)) result (seen self.new.ledger (C.cover self.new.collateral) (C.verdict self.new.collateral)) }
     {
         if from < 1 || from > ZONES || to < 1 || to > ZONES || from == to {
             return Err(Refusal::Zone);
@@ -51,7 +51,7 @@ impl<C: Collateral> Book<C> {
 
     // Places a bid; answers its receipt, the worst charge of the participant's bids there, and its credit limit.
     pub fn bid(&mut self, p: u8, a: u8, price: u32, mw: u16) -> Result<Receipt, Refusal>
-        ensures { Step (place_bid p a price mw) (seen self.old.ledger (cover self.old.collateral) (verdict self.old.collateral)) result (seen self.new.ledger (cover self.new.collateral) (verdict self.new.collateral)) }
+        ensures { Step (place_bid p a price mw) (seen self.old.ledger (C.cover self.old.collateral) (C.verdict self.old.collateral)) result (seen self.new.ledger (C.cover self.new.collateral) (C.verdict self.new.collateral)) }
     {
         if p < 1 || p > 12 {
             return Err(Refusal::Participant);
@@ -83,7 +83,7 @@ impl<C: Collateral> Book<C> {
 
     // The credit limits of all participants, from participant 1 on.
     fn limits(&self) -> [u64; PARTICIPANTS]
-        ensures { result ≡ all_limits self.now.ledger (cover self.now.collateral) }
+        ensures { result ≡ all_limits self.now.ledger (C.cover self.now.collateral) }
     {
         let mut limits = [0; PARTICIPANTS];
         for p in 0..12u8 {
@@ -94,7 +94,7 @@ impl<C: Collateral> Book<C> {
 
     // Seals an auction: the limits of all twelve are found before any sum is held.
     pub fn seal(&mut self, a: u8) -> Result<Cut, Refusal>
-        ensures { Step (seal_auction a) (seen self.old.ledger (cover self.old.collateral) (verdict self.old.collateral)) result (seen self.new.ledger (cover self.new.collateral) (verdict self.new.collateral)) }
+        ensures { Step (seal_auction a) (seen self.old.ledger (C.cover self.old.collateral) (C.verdict self.old.collateral)) result (seen self.new.ledger (C.cover self.new.collateral) (C.verdict self.new.collateral)) }
     {
         if a < 1 || usize::from(a) > self.ledger.opened {
             return Err(Refusal::Unopened);
@@ -112,7 +112,7 @@ impl<C: Collateral> Book<C> {
 
     // Awards a sealed auction at the marginal price of what was kept; answers that price and the MW awarded.
     pub fn award(&mut self, a: u8) -> Result<Clearing, Refusal>
-        ensures { Step (award_auction a) (seen self.old.ledger (cover self.old.collateral) (verdict self.old.collateral)) result (seen self.new.ledger (cover self.new.collateral) (verdict self.new.collateral)) }
+        ensures { Step (award_auction a) (seen self.old.ledger (C.cover self.old.collateral) (C.verdict self.old.collateral)) result (seen self.new.ledger (C.cover self.new.collateral) (C.verdict self.new.collateral)) }
     {
         if a < 1 || usize::from(a) > self.ledger.opened {
             return Err(Refusal::Unopened);
@@ -129,7 +129,7 @@ impl<C: Collateral> Book<C> {
 
     // Cancels an open or sealed auction.
     pub fn cancel(&mut self, a: u8) -> Result<(), Refusal>
-        ensures { Step (cancel_auction a) (seen self.old.ledger (cover self.old.collateral) (verdict self.old.collateral)) result (seen self.new.ledger (cover self.new.collateral) (verdict self.new.collateral)) }
+        ensures { Step (cancel_auction a) (seen self.old.ledger (C.cover self.old.collateral) (C.verdict self.old.collateral)) result (seen self.new.ledger (C.cover self.new.collateral) (C.verdict self.new.collateral)) }
     {
         if a < 1 || usize::from(a) > self.ledger.opened {
             return Err(Refusal::Unopened);

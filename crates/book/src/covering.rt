@@ -11,7 +11,7 @@ use rules::Refusal;
 impl<C: Collateral> Book<C> {
     // Brings in collateral; answers the credit limit after it.
     pub fn add(&mut self, p: u8, kind: u8, sum: u64, last: u16) -> Result<u64, Refusal>
-        ensures { Step (add_collateral p kind sum last) (seen self.old.ledger (cover self.old.collateral) (verdict self.old.collateral)) result (seen self.new.ledger (cover self.new.collateral) (verdict self.new.collateral)) }
+        ensures { Step (add_collateral p kind sum last) (seen self.old.ledger (C.cover self.old.collateral) (C.verdict self.old.collateral)) result (seen self.new.ledger (C.cover self.new.collateral) (C.verdict self.new.collateral)) }
     {
         if p < 1 || p > 12 {
             return Err(Refusal::Participant);
@@ -22,7 +22,7 @@ impl<C: Collateral> Book<C> {
 
     // Takes a sum out of the collateral, up to the credit limit; answers the limit after it.
     pub fn withdraw(&mut self, p: u8, sum: u64) -> Result<u64, Refusal>
-        ensures { Step (withdraw p sum) (seen self.old.ledger (cover self.old.collateral) (verdict self.old.collateral)) result (seen self.new.ledger (cover self.new.collateral) (verdict self.new.collateral)) }
+        ensures { Step (withdraw p sum) (seen self.old.ledger (C.cover self.old.collateral) (C.verdict self.old.collateral)) result (seen self.new.ledger (C.cover self.new.collateral) (C.verdict self.new.collateral)) }
     {
         if p < 1 || p > 12 {
             return Err(Refusal::Participant);
@@ -39,7 +39,7 @@ impl<C: Collateral> Book<C> {
 
     // Takes what is overdue out of the collateral, as far as today's cover goes, and spends it along the open invoices.
     pub fn draw(&mut self, p: u8) -> Result<u64, Refusal>
-        ensures { Step (draw_overdue p) (seen self.old.ledger (cover self.old.collateral) (verdict self.old.collateral)) result (seen self.new.ledger (cover self.new.collateral) (verdict self.new.collateral)) }
+        ensures { Step (draw_overdue p) (seen self.old.ledger (C.cover self.old.collateral) (C.verdict self.old.collateral)) result (seen self.new.ledger (C.cover self.new.collateral) (C.verdict self.new.collateral)) }
     {
         if p < 1 || p > 12 {
             return Err(Refusal::Participant);

@@ -24,7 +24,7 @@ impl<C: Collateral> Book<C> {
         hours: u8,
         mw: u16,
     ) -> Result<(), Refusal>
-        ensures { Step (transfer_rights giver taker a first hours mw) (seen self.old.ledger (cover self.old.collateral) (verdict self.old.collateral)) result (seen self.new.ledger (cover self.new.collateral) (verdict self.new.collateral)) }
+        ensures { Step (transfer_rights giver taker a first hours mw) (seen self.old.ledger (C.cover self.old.collateral) (C.verdict self.old.collateral)) result (seen self.new.ledger (C.cover self.new.collateral) (C.verdict self.new.collateral)) }
     {
         if giver < 1 || giver > 12 || taker < 1 || taker > 12 {
             return Err(Refusal::Participant);
@@ -54,7 +54,7 @@ impl<C: Collateral> Book<C> {
 
     // Returns MW of an awarded auction into an open one of the same direction; answers that one's capacity after it.
     pub fn return_rights(&mut self, p: u8, out: u8, into: u8, mw: u16) -> Result<u16, Refusal>
-        ensures { Step (return_rights p out into mw) (seen self.old.ledger (cover self.old.collateral) (verdict self.old.collateral)) result (seen self.new.ledger (cover self.new.collateral) (verdict self.new.collateral)) }
+        ensures { Step (return_rights p out into mw) (seen self.old.ledger (C.cover self.old.collateral) (C.verdict self.old.collateral)) result (seen self.new.ledger (C.cover self.new.collateral) (C.verdict self.new.collateral)) }
     {
         if p < 1 || p > 12 {
             return Err(Refusal::Participant);
@@ -95,7 +95,7 @@ impl<C: Collateral> Book<C> {
         first: u8,
         limits: &[u8; LIMIT_BYTES],
     ) -> Result<u32, Refusal>
-        ensures { Step (curtail_rights from to first limits.now) (seen self.old.ledger (cover self.old.collateral) (verdict self.old.collateral)) result (seen self.new.ledger (cover self.new.collateral) (verdict self.new.collateral)) }
+        ensures { Step (curtail_rights from to first limits.now) (seen self.old.ledger (C.cover self.old.collateral) (C.verdict self.old.collateral)) result (seen self.new.ledger (C.cover self.new.collateral) (C.verdict self.new.collateral)) }
     {
         if from < 1 || from > ZONES || to < 1 || to > ZONES || from == to {
             return Err(Refusal::Zone);

@@ -19,7 +19,7 @@ const MOST_INVOICES: usize = 4;
 impl<C: Collateral> Book<C> {
     // Nets a participant's dues against its claims.
     pub fn invoice(&mut self, p: u8) -> Result<Netting, Refusal>
-        ensures { Step (send_invoice p) (seen self.old.ledger (cover self.old.collateral) (verdict self.old.collateral)) result (seen self.new.ledger (cover self.new.collateral) (verdict self.new.collateral)) }
+        ensures { Step (send_invoice p) (seen self.old.ledger (C.cover self.old.collateral) (C.verdict self.old.collateral)) result (seen self.new.ledger (C.cover self.new.collateral) (C.verdict self.new.collateral)) }
     {
         if p < 1 || p > 12 {
             return Err(Refusal::Participant);
@@ -37,7 +37,7 @@ impl<C: Collateral> Book<C> {
 
     // Spends a payment along a participant's open invoices; answers what is open afterwards.
     pub fn payment(&mut self, p: u8, sum: u64) -> Result<u64, Refusal>
-        ensures { Step (pay_invoices p sum) (seen self.old.ledger (cover self.old.collateral) (verdict self.old.collateral)) result (seen self.new.ledger (cover self.new.collateral) (verdict self.new.collateral)) }
+        ensures { Step (pay_invoices p sum) (seen self.old.ledger (C.cover self.old.collateral) (C.verdict self.old.collateral)) result (seen self.new.ledger (C.cover self.new.collateral) (C.verdict self.new.collateral)) }
     {
         if p < 1 || p > 12 {
             return Err(Refusal::Participant);
@@ -53,7 +53,7 @@ impl<C: Collateral> Book<C> {
 
     // Pays out a participant's whole balance.
     pub fn payout(&mut self, p: u8) -> Result<u64, Refusal>
-        ensures { Step (pay_balance p) (seen self.old.ledger (cover self.old.collateral) (verdict self.old.collateral)) result (seen self.new.ledger (cover self.new.collateral) (verdict self.new.collateral)) }
+        ensures { Step (pay_balance p) (seen self.old.ledger (C.cover self.old.collateral) (C.verdict self.old.collateral)) result (seen self.new.ledger (C.cover self.new.collateral) (C.verdict self.new.collateral)) }
     {
         if p < 1 || p > 12 {
             return Err(Refusal::Participant);
@@ -66,7 +66,7 @@ impl<C: Collateral> Book<C> {
 
     // Moves to today or a later day.
     pub fn day(&mut self, day: u16) -> Result<u16, Refusal>
-        ensures { Step (move_day day) (seen self.old.ledger (cover self.old.collateral) (verdict self.old.collateral)) result (seen self.new.ledger (cover self.new.collateral) (verdict self.new.collateral)) }
+        ensures { Step (move_day day) (seen self.old.ledger (C.cover self.old.collateral) (C.verdict self.old.collateral)) result (seen self.new.ledger (C.cover self.new.collateral) (C.verdict self.new.collateral)) }
     {
         if day < self.ledger.day || day > LAST_DAY {
             return Err(Refusal::Day);

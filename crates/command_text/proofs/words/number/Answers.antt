@@ -25,7 +25,7 @@ returns-in_err-value c =
     let more = grows (drop (i + 1) s) next in
     let all = c.loop-i.invariant.1 in
     let past : 2 ^ 64 ≤ value_on 0 s = omega (arith, c.in_err-value.ensures) in
-    rw c.from-residual.ensures (λ _. past)
+    rw c.from_residual.ensures (λ _. past)
 
 pub loop-i-preserved : goal.loop-i-preserved
 loop-i-preserved c =

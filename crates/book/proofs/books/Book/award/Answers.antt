@@ -20,4 +20,4 @@ award-outcome-requires g c =
 pub invariant_of-self : goal.invariant_of-self
 invariant_of-self g c =
     let sealed = stage_sealed (auction_at c.args.self.now.ledger c.args.a).stage (ap not (sym c.is_sealed.ensures ∙ c.if-not-is_sealed.false)) in
-    (again c.award-outcome.new.self c.award-outcome.ensures.after (sound_award c.args.a c.args.self.now.ledger (sound_held c.args.self.now.sound) (omega arith) (omega arith) sealed), tt)
+    record { sound = again c.award-outcome.new.self c.award-outcome.ensures.after (sound_award c.args.a c.args.self.now.ledger (sound_held c.args.self.now.sound) (omega arith) (omega arith) sealed) }

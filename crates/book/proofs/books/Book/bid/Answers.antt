@@ -40,11 +40,10 @@ worst_charge-requires g c = let s = sound_held c.args.self.now.sound in (omega a
 pub invariant_of-self : goal.invariant_of-self
 invariant_of-self g c =
     let s = sound_held c.args.self.now.sound in
-    let entered : is_open (auction_at c.args.self.now.ledger c.args.a).stage ≡ true = sym c.is_open.ensures ∙ c.if-not-is_open.false in (
-      again c.bid.new.self c.bid.ensures
-          (sound_bid c.args.p c.args.a (bid_of c.args.price c.args.mw) c.args.self.now.ledger s (omega arith) (omega arith) (omega arith) (omega arith) (open_if _ entered) (omega arith, omega arith, omega arith) (omega arith) (omega arith)),
-      tt,
-    )
+    let entered : is_open (auction_at c.args.self.now.ledger c.args.a).stage ≡ true = sym c.is_open.ensures ∙ c.if-not-is_open.false in record {
+      sound = again c.bid.new.self c.bid.ensures
+          (sound_bid c.args.p c.args.a (bid_of c.args.price c.args.mw) c.args.self.now.ledger s (omega arith) (omega arith) (omega arith) (omega arith) (open_if _ entered) (omega arith, omega arith, omega arith) (omega arith) (omega arith));
+    }
 
 pub returns : goal.returns
 returns g c =

@@ -13,4 +13,4 @@ cancel-requires g c =
     record { place = (omega arith, omega (arith, s.auctions.opened)); stage = sym c.is_pending.ensures ∙ c.if-not-is_pending.false; sound = s }
 
 pub invariant_of-self : goal.invariant_of-self
-invariant_of-self g c = (again c.cancel.new.self c.cancel.ensures (sound_cancel c.args.a c.args.self.now.ledger (sound_held c.args.self.now.sound) (omega arith) (omega arith) (sym c.is_pending.ensures ∙ c.if-not-is_pending.false)), tt)
+invariant_of-self g c = record { sound = again c.cancel.new.self c.cancel.ensures (sound_cancel c.args.a c.args.self.now.ledger (sound_held c.args.self.now.sound) (omega arith) (omega arith) (sym c.is_pending.ensures ∙ c.if-not-is_pending.false)) }

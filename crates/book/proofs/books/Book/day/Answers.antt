@@ -4,4 +4,4 @@ use Rattle.ledger.proofs.Sounds.{sound_day}
 use Rattle.book.proofs.books.Book.day.Goals as goal
 
 pub invariant_of-self : goal.invariant_of-self
-invariant_of-self g c = (tt, (∣ sound_day c.args.day c.args.self.now.ledger (sound_held c.args.self.now.sound) (omega arith) ∣₁, tt))
+invariant_of-self g c = record { sound = ∣ sound_day c.args.day c.args.self.now.ledger (sound_held c.args.self.now.sound) (omega arith) ∣₁ }

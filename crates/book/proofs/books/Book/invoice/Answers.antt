@@ -14,8 +14,7 @@ invoice-pay-requires g c = record {
 }
 
 pub invariant_of-self : goal.invariant_of-self
-invariant_of-self g c = (
-  again c.invoice-pay.new.self c.invoice-pay.ensures.after (sound_invoice c.args.p c.args.self.now.ledger (sound_held c.args.self.now.sound)
-      (λ pos. elim c.else-account.branch [ else-account-via-then-account+else-account-ge-MOST_INVOICES w ↦ omega arith | else-account-via-else-account w ↦ omega arith ])),
-  tt,
-)
+invariant_of-self g c = record {
+  sound = again c.invoice-pay.new.self c.invoice-pay.ensures.after (sound_invoice c.args.p c.args.self.now.ledger (sound_held c.args.self.now.sound)
+      (λ pos. elim c.else-account.branch [ else-account-via-then-account+else-account-ge-MOST_INVOICES w ↦ omega arith | else-account-via-else-account w ↦ omega arith ]));
+}

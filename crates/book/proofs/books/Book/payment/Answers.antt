@@ -11,4 +11,4 @@ pub pay-requires : goal.pay-requires
 pay-requires g c = (omega arith, (omega arith, sound_held c.args.self.now.sound))
 
 pub invariant_of-self : goal.invariant_of-self
-invariant_of-self g c = (again c.pay.new.self c.pay.ensures.after (sound_payment c.args.p c.args.sum c.args.self.now.ledger (sound_held c.args.self.now.sound)), tt)
+invariant_of-self g c = record { sound = again c.pay.new.self c.pay.ensures.after (sound_payment c.args.p c.args.sum c.args.self.now.ledger (sound_held c.args.self.now.sound)) }

@@ -43,9 +43,8 @@ return_rights-requires g c =
 
 pub invariant_of-self : goal.invariant_of-self
 invariant_of-self g c =
-    let entered : is_open (auction_at c.args.self.now.ledger c.args.into).stage ≡ true = sym c.is_open.ensures ∙ c.if-not-is_open.false in (
-      again c.return_rights.new.self c.return_rights.ensures
+    let entered : is_open (auction_at c.args.self.now.ledger c.args.into).stage ≡ true = sym c.is_open.ensures ∙ c.if-not-is_open.false in record {
+      sound = again c.return_rights.new.self c.return_rights.ensures
           (sound_return c.args.p c.args.out c.args.into c.args.mw c.args.self.now.ledger (sound_held c.args.self.now.sound) (omega arith) (omega arith)
-          (sym c.is_awarded.ensures ∙ c.if-not-is_awarded.false) (open_if _ entered) (sym c.same_way.ensures ∙ c.if-not-same_way.false) (sym c.holds_through.ensures ∙ c.if-not-holds_through.false) (omega arith)),
-      tt,
-    )
+          (sym c.is_awarded.ensures ∙ c.if-not-is_awarded.false) (open_if _ entered) (sym c.same_way.ensures ∙ c.if-not-same_way.false) (sym c.holds_through.ensures ∙ c.if-not-holds_through.false) (omega arith));
+    }

@@ -36,7 +36,7 @@ pub invariant_of-self : goal.invariant_of-self
 invariant_of-self g c =
     let s = sound_held c.args.self.now.sound in
     let entered : is_open (auction_at c.args.self.now.ledger c.args.a).stage ≡ true = sym c.is_open.ensures ∙ c.if-not-is_open.false in
-    (again c.seal.new.self c.seal.ensures (sound_seal c.args.a c.limits-limits.result c.args.self.now.ledger s (omega arith) (omega arith) (open_if _ entered) (ap length c.limits-limits.ensures)), tt)
+    record { sound = again c.seal.new.self c.seal.ensures (sound_seal c.args.a c.limits-limits.result c.args.self.now.ledger s (omega arith) (omega arith) (open_if _ entered) (ap length c.limits-limits.ensures)) }
 
 pub bids_kept-requires : goal.bids_kept-requires
 bids_kept-requires g c =

@@ -26,8 +26,7 @@ transfer-requires g c =
     }
 
 pub invariant_of-self : goal.invariant_of-self
-invariant_of-self g c = (
-  again c.transfer.new.self c.transfer.ensures
-      (sound_transfer c.args.giver c.args.taker c.args.a c.args.first c.args.hours c.args.mw c.args.self.now.ledger (sound_held c.args.self.now.sound) (sym c.holds_through.ensures ∙ c.if-not-holds_through.false)),
-  tt,
-)
+invariant_of-self g c = record {
+  sound = again c.transfer.new.self c.transfer.ensures
+      (sound_transfer c.args.giver c.args.taker c.args.a c.args.first c.args.hours c.args.mw c.args.self.now.ledger (sound_held c.args.self.now.sound) (sym c.holds_through.ensures ∙ c.if-not-holds_through.false));
+}
