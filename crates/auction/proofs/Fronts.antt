@@ -1,5 +1,5 @@
 -- The kept front: within the limit, the longest such, and no bid is left out without need.
-use Rattle.std.proofs.Common.{◌≡◌, ℕ, zero, suc, ◌+◌, ◌<◌, ◌≤◌, Bool, cond, leb, ◌⊎◌, List, [], ◌∷◌, ◌++◌, length, take, drop, refl, ap, inl, inr, le_trans, arith, take-append-drop, take-take}
+use Rattle.std.proofs.Common.{◌≡◌, ℕ, zero, suc, ◌+◌, ◌<◌, ◌≤◌, Bool, cond, leb, ◌⊎◌, List, [], ◌∷◌, ◌++◌, length, take, drop, ap, inl, inr, le_trans, arith, take-append-drop, take-take}
 use Rattle.std.proofs.lemmas.Bool.Decides.{nat_tests}
 use Rattle.std.proofs.lemmas.Bool.{cases_order, leb-true, leb-false}
 use Rattle.roll.proofs.Sums.{sum_append}
@@ -7,8 +7,8 @@ use Rattle.roll.proofs.Maxima.{most_le, largest_le, largest_passes, beyond_fails
 use Rattle.auction.specs.declared.bids.Bid.{Bid}
 use Rattle.auction.specs.declared.products.Product.{Product}
 use Rattle.auction.specs.Charge.{mw_from, charge_at, worst_charge}
-use Rattle.auction.specs.Seal.{kept_count, kept_front, left_out, LongestFront}
-use Rattle.auction.specs.Rivals.{MadeToPass, RightlyLeftOut}
+use Rattle.auction.specs.Seal.{kept_count, kept_front, LongestFront}
+use Rattle.auction.specs.Rivals.{RightlyLeftOut}
 use Rattle.auction.proofs.Volumes.{cost_grows}
 use Rattle.auction.proofs.Worst.{charge_worst}
 use Rattle.auction.proofs.Rivals.{worst_exact}

@@ -1,7 +1,7 @@
 -- The level at which the MW at the price are shared.
-use Rattle.std.proofs.Common.{◌≡◌, ℕ, ◌+◌, ◌<◌, ◌≤◌, min, Bool, true, false, cond, leb, ◌⊎◌, List, [], ◌∷◌, map, refl, inl, inr, le_trans, arith}
+use Rattle.std.proofs.Common.{◌≡◌, ℕ, ◌<◌, ◌≤◌, min, Bool, true, false, cond, leb, ◌⊎◌, List, [], ◌∷◌, refl, inl, inr, arith}
 use Rattle.std.proofs.lemmas.Bool.{cases_lt, leb-true, leb-false, le-leb}
-use Rattle.roll.specs.Sums.{sum_of, largest_to}
+use Rattle.roll.specs.Sums.{sum_of}
 use Rattle.roll.proofs.Sums.{sum_mono}
 use Rattle.roll.proofs.Maxima.{largest_passes, beyond_fails, largest_le}
 use Rattle.auction.specs.declared.shares.Sharing.{Sharing}

@@ -1,18 +1,18 @@
 -- The marginal price: the kept bids reach the capacity at it, and not above it.
-use Rattle.std.proofs.Common.{◌≡◌, ℕ, suc, ◌+◌, ◌<◌, ◌≤◌, max, Bool, true, false, cond, leb, ◌⊎◌, List, [], ◌∷◌, ◌++◌, map, length, get_or, take, sym, refl, ap, ◌∙◌, inl, inr, arith}
+use Rattle.std.proofs.Common.{◌≡◌, ℕ, suc, ◌<◌, ◌≤◌, Bool, true, false, cond, leb, ◌⊎◌, List, [], ◌∷◌, ◌++◌, length, get_or, take, sym, refl, ap, ◌∙◌, inl, inr, arith}
 use Rattle.std.specs.List.{AllByRecursion as All}
 use Rattle.std.proofs.lemmas.List.{take_all}
 use Rattle.std.proofs.lemmas.Bool.Decides.{nat_tests}
 use Rattle.std.proofs.lemmas.Bool.{cases_lt, leb-true}
 use Rattle.roll.specs.Sums.{sum_of, most_of}
-use Rattle.roll.proofs.Sums.{sum_append, sum_mono, sum_map}
+use Rattle.roll.proofs.Sums.{sum_append, sum_mono}
 use Rattle.roll.proofs.Maxima.{most_all, most_append, most_map, most_under}
 use Rattle.auction.specs.declared.bids.Bid.{Bid}
 use Rattle.auction.specs.declared.sheets.Sheet.{Sheet}
 use Rattle.auction.specs.Bids.{Lawful, mw_all, kept_of}
 use Rattle.auction.specs.Charge.{mw_from}
 use Rattle.auction.specs.Award.{kept_lists, total_mw, total_from, reaching_price, price_of, mw_above, Clears}
-use Rattle.auction.proofs.Worst.{Priced, Next, next_price, priced_most, most_attained, Attained, from_all, from_zero, from_falls}
+use Rattle.auction.proofs.Worst.{Priced, Next, next_price, priced_most, most_attained, Attained, from_all, from_zero}
 
 -- all kept bids in one list
 abbrev flat : List (List Bid) → List Bid

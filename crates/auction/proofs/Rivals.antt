@@ -1,5 +1,5 @@
 -- Some bids of the others make a participant pay exactly its worst charge: one rival takes up the rest of the capacity.
-use Rattle.std.proofs.Common.{◌≡◌, ℕ, zero, suc, ◌+◌, ◌-◌, ◌*◌, ◌<◌, ◌≤◌, max, cond, leb, ◌⊎◌, List, [], ◌∷◌, map, length, get_or, set, replicate, sym, refl, ap, ◌∙◌, inl, inr, le_of_suc-le-suc, arith, length-set}
+use Rattle.std.proofs.Common.{◌≡◌, ℕ, zero, suc, ◌+◌, ◌-◌, ◌<◌, ◌≤◌, max, cond, leb, ◌⊎◌, List, [], ◌∷◌, map, length, get_or, set, replicate, sym, refl, ap, ◌∙◌, inl, inr, le_of_suc-le-suc, arith, length-set}
 use Rattle.std.specs.List.{AllByRecursion as All}
 use Rattle.std.proofs.lemmas.Bool.Decides.{nat_tests}
 use Rattle.std.proofs.lemmas.Bool.{cases_lt, cases_eq}
@@ -11,8 +11,8 @@ use Rattle.auction.specs.declared.products.Product.{Product}
 use Rattle.auction.specs.Bids.{Lawful, Within, mw_all}
 use Rattle.auction.specs.Volume.{cost}
 use Rattle.auction.specs.Charge.{mw_from, charge_at, worst_charge}
-use Rattle.auction.specs.Award.{total_mw, total_from, reaching_price, price_of, mw_above, mw_at, remaining, sharing_of, share, award_at, pays}
-use Rattle.auction.specs.Rivals.{Stands, Bidder, MadeToPay}
+use Rattle.auction.specs.Award.{total_mw, total_from, reaching_price, price_of, mw_above, mw_at, remaining, award_at, pays}
+use Rattle.auction.specs.Rivals.{Stands, MadeToPay}
 use Rattle.auction.proofs.Volumes.{cost_free}
 use Rattle.auction.proofs.Worst.{Priced, Attained, from_splits, from_all, from_drops, priced_lawful, priced_most, most_attained}
 use Rattle.auction.proofs.Marginal.{price_enough}

@@ -1,5 +1,5 @@
 -- The cut at the seal: which bids a credit limit keeps, and the sum that is held for them.
-use Rattle.std.specs.Prelude.{◌≡◌, ℕ, ◌<◌, ◌≤◌, List, length, take, drop, nat_le}
+use Rattle.std.specs.Prelude.{ℕ, ◌<◌, ◌≤◌, List, length, take, drop, nat_le}
 use Rattle.roll.specs.Rows.{each_with}
 use Rattle.roll.specs.Sums.{largest_to}
 use Rattle.auction.specs.declared.bids.Bid.{Bid}

@@ -1,13 +1,13 @@
 -- Guarantees stay in their order over whole runs, so that just the valid ones count.
-use Rattle.std.proofs.Common.{◌≡◌, ℕ, ◌-◌, ◌<◌, ◌≤◌, Bool, true, false, cond, ◌&&◌, leb, ◌⊎◌, List, [], ◌∷◌, length, get_or, set, sym, refl, ap, ◌∙◌, subst, inl, inr, arith}
-use Rattle.std.proofs.lemmas.List.{get_or-replicate, get_or-set_other, get_or-set_same, get_or_past, length-replicate, set_past}
+use Rattle.std.proofs.Common.{◌≡◌, ℕ, ◌-◌, Bool, true, false, cond, ◌&&◌, leb, [], length, get_or, set, sym, refl, ap, ◌∙◌, subst, inl, inr, arith}
+use Rattle.std.proofs.lemmas.List.{get_or-replicate, get_or-set_other, get_or-set_same, get_or_past, set_past}
 use Rattle.std.proofs.lemmas.Bool.{cases_eq, cases_lt, cond-true, le-leb, leb-false, leb-true, lt-ltb, ltb-true}
 use Rattle.roll.specs.Rolls.{Ordered, behind}
 use Rattle.roll.proofs.Clear.{clear_ordered, ordered_spent_clear}
 use Rattle.roll.proofs.Orders.{ordered_drop, ordered_inserted}
 use Rattle.collateral.specs.Causes.{granted}
 use Rattle.collateral.specs.Cover.{in_range}
-use Rattle.collateral.specs.Guarantees.{at_sum, earlier, folder_cover, folder_of, guarantees_added, guarantees_taken, guarantees_verdict, held_in, no_folder, no_guarantees, past_on, stored, sum_in, used, valid, with_folder, with_held}
+use Rattle.collateral.specs.Guarantees.{at_sum, earlier, folder_cover, folder_of, guarantees_verdict, held_in, no_folder, no_guarantees, past_on, stored, sum_in, used, valid, with_folder, with_held}
 use Rattle.collateral.specs.Runs.{EachCounts, InOrder, Run, RunsCount, added, begun, took}
 use Rattle.collateral.specs.declared.folder.Folder.{Folder}
 use Rattle.collateral.specs.declared.folder.Guarantee.{Guarantee}

@@ -1,5 +1,5 @@
 -- Cash: the cover of a participant is its balance, on every day.
-use Rattle.std.specs.Prelude.{ℕ, ◌+◌, ◌-◌, Bool, cond, not, ◌&&◌, ◌||◌, ltb, List, [], ◌∷◌, replicate, Result, ◌==◌, nat_le, nat_lt, slice_index, slice_set}
+use Rattle.std.specs.Prelude.{ℕ, ◌+◌, ◌-◌, cond, not, ◌&&◌, ◌||◌, ltb, [], ◌∷◌, replicate, Result, ◌==◌, nat_le, nat_lt, slice_index, slice_set}
 use Rattle.collateral.specs.declared.kind.Cause.{Cause}
 use Rattle.collateral.specs.declared.kind.Cause.TheVariants.{Stranger, UnknownKind, LastDay, BadSum}
 use Rattle.collateral.specs.declared.cash.Cash.{Cash}

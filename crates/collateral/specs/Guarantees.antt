@@ -4,8 +4,8 @@
 --   valid        those that count on a day, which stand behind the past ones
 --   used         what is held after a sum is taken on a day: those that are past stay as they are
 --   stored       what is held after a new one is put in: the past ones leave their places
-use Rattle.std.specs.Prelude.{ℕ, ◌+◌, ◌-◌, Bool, cond, not, ◌&&◌, ◌||◌, List, [], ◌∷◌, ◌++◌, length, take, drop, replicate, Result, ◌==◌, nat_le, nat_lt, slice_index_or, slice_set}
-use Rattle.roll.specs.Rolls.{behind, clear_of, inserted, laid}
+use Rattle.std.specs.Prelude.{ℕ, ◌-◌, Bool, cond, not, ◌&&◌, ◌||◌, List, [], ◌∷◌, ◌++◌, length, take, drop, replicate, Result, ◌==◌, nat_le, nat_lt, slice_index_or, slice_set}
+use Rattle.roll.specs.Rolls.{clear_of, inserted, laid}
 use Rattle.roll.specs.Spending.{spent, spent_clear}
 use Rattle.roll.specs.Sums.{sum_of}
 use Rattle.collateral.specs.declared.folder.Guarantee.{Guarantee}

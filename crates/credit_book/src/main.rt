@@ -6,10 +6,10 @@ use book::Book;
 use collateral::cash::Cash;
 use collateral::guarantees::Guarantees;
 use collateral::joined::Joined;
-use collateral::kind::Collateral;
 use runner::{MOST_INPUT, run_file};
 use std::io;
 use std::io::Read;
+use std::process::ExitCode;
 
 fn run(rt: &HostRuntime) -> io::Result<()> {
     // One byte past the longest input shows that it is too long.
@@ -24,10 +24,11 @@ fn run(rt: &HostRuntime) -> io::Result<()> {
     run_file(&mut book, &input, &mut rt.stdout())
 }
 
-fn main(rt: HostRuntime) -> io::Result<()> {
-    let result = run(&rt);
-    if let Err(error) = &result {
-        eprintln!(rt; "credit_book: {error}")?;
-    }
-    result
+fn main(rt: HostRuntime) -> ExitCode {
+    let Err(error) = run(&rt) else {
+        return ExitCode::SUCCESS;
+    };
+    // Standard error may be closed; the exit status says that the program failed all the same.
+    let _ = eprintln!(rt; "credit_book: {error}");
+    ExitCode::FAILURE
 }

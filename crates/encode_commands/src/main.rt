@@ -5,6 +5,7 @@
 use command_text::{Expected, encode_line};
 use std::io;
 use std::io::{BufRead, BufReader, Write};
+use std::process::ExitCode;
 
 // Why the program stops before the end of its input.
 #[derive(Drop)]
@@ -38,15 +39,17 @@ fn run(rt: &HostRuntime) -> Result<(), Stop> {
     Ok(())
 }
 
-fn main(rt: HostRuntime) -> Result<(), Stop> {
-    let result = run(&rt);
-    match &result {
-        Ok(()) => {}
-        Err(Stop::Line { number, expected }) => {
+fn main(rt: HostRuntime) -> ExitCode {
+    let Err(stop) = run(&rt) else {
+        return ExitCode::SUCCESS;
+    };
+    // Standard error may be closed; the exit status says that the program failed all the same.
+    let _ = match stop {
+        Stop::Line { number, expected } => {
             let expected = expected.text();
-            eprintln!(rt; "line {number}: expected {expected}")?;
+            eprintln!(rt; "line {number}: expected {expected}")
         }
-        Err(Stop::Failed(error)) => eprintln!(rt; "{error}")?,
-    }
-    result
+        Stop::Failed(error) => eprintln!(rt; "{error}"),
+    };
+    ExitCode::FAILURE
 }

@@ -1,9 +1,8 @@
 -- The auctions of a ledger stay sound under every call on them.
-use Rattle.std.proofs.Common.{◌≡◌, ℕ, ◌+◌, ◌-◌, ◌<◌, ◌≤◌, true, false, ◌⊎◌, List, [], ◌∷◌, map, length, get_or, set, replicate, sym, refl, ap, ◌∙◌, subst, inl, inr, arith, length-set}
+use Rattle.std.proofs.Common.{◌≡◌, ℕ, ◌+◌, ◌-◌, ◌<◌, ◌≤◌, List, [], map, length, get_or, set, sym, refl, ap, ◌∙◌, subst, inl, inr, arith, length-set}
 use lib.ListN.{get_or-replicate}
 use Rattle.std.proofs.lemmas.List.{get_or-map, length-map, get_or-set_same, get_or-set_other}
 use Rattle.std.proofs.lemmas.Bool.{cases_eq}
-use Rattle.roll.specs.Rows.{each_with}
 use Rattle.roll.specs.Sums.{sum_of}
 use Rattle.roll.proofs.Rows.{set_under, with_at, with_length, with_sum}
 use Rattle.roll.proofs.Sums.{sum_map, sum_set_ge, sum_under}
@@ -19,11 +18,10 @@ use Rattle.auction.proofs.Marginal.{price_lawful}
 use Rattle.rights.specs.declared.hours.Hour.{Hour}
 use Rattle.ledger.specs.declared.auctions.Auction.{Auction}
 use Rattle.ledger.specs.declared.auctions.Direction.{Direction}
-use Rattle.ledger.specs.declared.auctions.Stage.{Stage}
-use Rattle.ledger.specs.declared.auctions.Stage.TheVariants.{Open, Sealed, Awarded, Cancelled}
+use Rattle.ledger.specs.declared.auctions.Stage.TheVariants.{Open, Sealed}
 use Rattle.ledger.specs.declared.ledgers.Ledger.{Ledger}
 use Rattle.ledger.specs.Auctions.{new_auction, no_auction, no_sheet, placed_in, sheet_of, unopened_auction, with_returned}
-use Rattle.ledger.specs.Ledgers.{auction_at, new_ledger, sheet_at, with_auction}
+use Rattle.ledger.specs.Ledgers.{auction_at, new_ledger, sheet_at}
 use Rattle.ledger.specs.Sound.{SoundAuction, SoundAuctions, SoundSheet, Staged}
 use Rattle.ledger.specs.Stages.{awarded_as, bid_placed, cancelled, freed, opened_with, sealed_at, with_sheet}
 use Rattle.ledger.proofs.Sheets.{sheet_with, within_more}

@@ -1,18 +1,18 @@
 -- What each call does to what a participant owes and has held.
-use Rattle.std.proofs.Common.{◌≡◌, ℕ, zero, suc, ◌+◌, ◌-◌, ◌<◌, ◌≤◌, min, List, [], ◌∷◌, map, length, get_or, set, replicate, sym, refl, ap, ◌∙◌, subst, le_of_suc-le-suc, arith}
+use Rattle.std.proofs.Common.{◌≡◌, ℕ, zero, suc, ◌+◌, ◌-◌, ◌<◌, ◌≤◌, List, [], ◌∷◌, map, length, get_or, set, replicate, refl, ap, ◌∙◌, subst, le_of_suc-le-suc, arith}
 use Rattle.std.proofs.lemmas.List.{get_or-map, length-map, get_or-set_same}
 use Rattle.roll.specs.Rows.{each_with}
 use Rattle.roll.specs.Sums.{sum_of}
 use Rattle.roll.proofs.Rows.{set_le, with_le}
 use Rattle.roll.proofs.Sums.{sum_none, sum_set_le}
-use Rattle.account.specs.Invoices.{new_account, owed, overdue, still_open}
+use Rattle.account.specs.Invoices.{new_account, owed}
 use Rattle.account.specs.Settling.{charged, claiming, invoiced, paid, paid_out}
 use Rattle.account.specs.declared.accounts.Account.{Account}
 use Rattle.account.proofs.Debts.{overdue_within, owed_invoiced, owed_paid}
-use Rattle.auction.specs.Award.{dues_of, kept_lists, outcome_of, pays}
+use Rattle.auction.specs.Award.{dues_of, kept_lists}
 use Rattle.auction.specs.Bids.{bids_of, kept_of, no_bids, with_bid}
 use Rattle.auction.specs.Charge.{worst_charge}
-use Rattle.auction.specs.Seal.{kept_front, sealed}
+use Rattle.auction.specs.Seal.{sealed}
 use Rattle.auction.specs.declared.bids.Bid.{Bid}
 use Rattle.auction.specs.declared.products.Product.{Product}
 use Rattle.auction.specs.declared.sheets.Sheet.{Sheet}
@@ -20,17 +20,16 @@ use Rattle.auction.proofs.Fronts.{longest_front}
 use Rattle.auction.proofs.Settled.{dues_pay, pays_worst}
 use Rattle.rights.specs.Cuts.{all_earned}
 use Rattle.rights.specs.Returns.{waiting_more}
-use Rattle.rights.specs.declared.hours.Hour.{Hour}
 use Rattle.ledger.specs.declared.auctions.Auction.{Auction}
 use Rattle.ledger.specs.declared.auctions.Direction.{Direction}
 use Rattle.ledger.specs.declared.auctions.Stage.TheVariants.{Sealed}
 use Rattle.ledger.specs.declared.ledgers.Ledger.{Ledger}
 use Rattle.ledger.specs.Auctions.{held_in, new_auction, no_auction, no_sheet, sheet_of, unopened_auction, with_returned}
-use Rattle.ledger.specs.Ledgers.{account_at, auction_at, new_ledger, no_account, with_auction}
+use Rattle.ledger.specs.Ledgers.{account_at, auction_at, new_ledger, no_account}
 use Rattle.ledger.specs.Limits.{Cover, all_limits, credit_limit, held_sums, overdue_by, owes}
 use Rattle.ledger.specs.Moves.{account_invoiced, account_paid, account_paid_out, prices_towards, rights_curtailed, rights_returned}
 use Rattle.ledger.specs.Sound.{SoundAuction, SoundAuctions, Staged}
-use Rattle.ledger.specs.Stages.{auction_awarded, auction_cancelled, auction_sealed, awarded_as, bid_placed, cancelled, freed, opened_with, outcome, after_award, return_claims, sealed_at, with_sheet}
+use Rattle.ledger.specs.Stages.{auction_awarded, auction_cancelled, awarded_as, bid_placed, cancelled, freed, opened_with, outcome, return_claims, sealed_at, with_sheet}
 
 -- a sheet's held sum
 abbrev held_by : Sheet → ℕ

@@ -1,15 +1,14 @@
 -- Sheets stay sound as bids are placed, cut and freed.
-use Rattle.std.proofs.Common.{◌≡◌, ℕ, ◌+◌, ◌-◌, ◌<◌, ◌≤◌, true, false, leb, List, [], ◌∷◌, map, length, get_or, take, sym, refl, ap, ◌∙◌, subst, arith}
-use Rattle.std.specs.List.{AllByRecursion as All}
+use Rattle.std.proofs.Common.{◌≡◌, ℕ, ◌+◌, ◌<◌, ◌≤◌, true, false, List, length, get_or, take, refl, ◌∙◌, subst, arith}
 use Rattle.std.proofs.ByRecursion.{All-take}
 use Rattle.std.proofs.lemmas.List.{length-take}
 use Rattle.std.proofs.lemmas.Bool.Decides.{nat_tests}
-use Rattle.roll.specs.Rolls.{Ordered, inserted, laid}
+use Rattle.roll.specs.Rolls.{inserted}
 use Rattle.roll.proofs.Insertions.{sum_inserted, all_inserted, length_laid}
 use Rattle.roll.proofs.Moves.{length_inserted, put_front}
 use Rattle.roll.proofs.Orders.{ordered_inserted}
 use Rattle.roll.proofs.Sums.{sum_take}
-use Rattle.auction.specs.Bids.{Lawful, Within, bids_of, dearer, kept_of, mw_all, with_bid}
+use Rattle.auction.specs.Bids.{Lawful, Within, bids_of, dearer, mw_all, with_bid}
 use Rattle.auction.specs.declared.bids.Bid.{Bid}
 use Rattle.auction.specs.declared.sheets.Sheet.{Sheet}
 use Rattle.auction.proofs.Fronts.{kept_within}

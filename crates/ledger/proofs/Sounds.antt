@@ -1,5 +1,5 @@
 -- Every granted call keeps the ledger sound.
-use Rattle.std.proofs.Common.{◌≡◌, ℕ, ◌+◌, ◌-◌, ◌<◌, ◌≤◌, true, cond, ◌||◌, List, [], ◌∷◌, length, set, replicate, sym, refl, ap, ◌∙◌, subst, arith}
+use Rattle.std.proofs.Common.{◌≡◌, ℕ, ◌+◌, ◌-◌, ◌<◌, ◌≤◌, true, cond, ◌||◌, List, length, set, replicate, refl, ap, arith}
 use Rattle.account.specs.Settling.{to_pay}
 use Rattle.auction.specs.Bids.{Lawful, bids_of, mw_all, with_bid}
 use Rattle.auction.specs.declared.bids.Bid.{Bid}
@@ -14,8 +14,8 @@ use Rattle.ledger.specs.declared.ledgers.Ledger.{Ledger}
 use Rattle.ledger.specs.Auctions.{is_awarded, is_open, is_sealed, new_auction, same_way, sheet_of, with_returned}
 use Rattle.ledger.specs.Ledgers.{account_at, auction_at, new_ledger, on_day, sheet_at}
 use Rattle.ledger.specs.Moves.{account_invoiced, account_paid, account_paid_out, prices_towards, rights_curtailed, rights_returned, rights_transferred}
-use Rattle.ledger.specs.Bounds.{awarded_one, awards}
-use Rattle.ledger.specs.Sound.{Sound, SoundAccounts, SoundAuctions}
+use Rattle.ledger.specs.Bounds.{awarded_one}
+use Rattle.ledger.specs.Sound.{Sound, SoundAccounts}
 use Rattle.ledger.specs.Stages.{auction_awarded, auction_cancelled, auction_sealed, awarded_as, bid_placed, cancelled, opened_with, sealed_at, with_sheet}
 use Rattle.ledger.proofs.Owing.{accounts_award, accounts_claims, accounts_invoice, accounts_kept, accounts_new, accounts_payment, accounts_payout, awards_open, awards_put, awards_same}
 use Rattle.ledger.proofs.RightsKept.{before_award, rights_award, rights_bid, rights_cancel, rights_curtail, rights_kept, rights_new, rights_open, rights_return, rights_seal, rights_transfer}

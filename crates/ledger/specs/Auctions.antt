@@ -1,5 +1,5 @@
 -- Auctions, their stages, and what stands in them. Participants are numbered from 1.
-use Rattle.std.specs.Prelude.{◌≡◌, ℕ, ◌+◌, ◌-◌, Bool, true, false, cond, ◌&&◌, ◌||◌, List, [], replicate, Some, None, Option, ◌==◌, nat_lt, slice_index_or}
+use Rattle.std.specs.Prelude.{ℕ, ◌+◌, ◌-◌, Bool, true, false, ◌&&◌, ◌||◌, List, [], replicate, Some, None, Option, ◌==◌, nat_lt, slice_index_or}
 use Rattle.roll.specs.Sums.{sum_of}
 use Rattle.auction.specs.Bids.{no_bids}
 use Rattle.auction.specs.declared.products.Product.{Product}

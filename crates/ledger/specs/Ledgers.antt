@@ -1,5 +1,5 @@
 -- The ledger, and its parts by the numbers of auctions and participants.
-use Rattle.std.specs.Prelude.{ℕ, ◌+◌, ◌-◌, List, [], replicate, slice_index_or, slice_set}
+use Rattle.std.specs.Prelude.{ℕ, ◌-◌, List, [], replicate, slice_index_or, slice_set}
 use Rattle.account.specs.Invoices.{new_account}
 use Rattle.account.specs.declared.accounts.Account.{Account}
 use Rattle.auction.specs.declared.sheets.Sheet.{Sheet}

@@ -1,5 +1,5 @@
 -- What holds of the ledger at every moment.
-use Rattle.std.specs.Prelude.{◌≡◌, ℕ, ◌+◌, ◌*◌, ◌<◌, ◌≤◌, List, length, get_or, slice_index_or}
+use Rattle.std.specs.Prelude.{◌≡◌, ℕ, ◌+◌, ◌*◌, ◌<◌, ◌≤◌, length, get_or, slice_index_or}
 use Rattle.roll.specs.Rolls.{Ordered}
 use Rattle.roll.specs.Sums.{sum_of}
 use Rattle.account.specs.Invoices.{invoices_of, owed, sooner}

@@ -1,5 +1,5 @@
 -- What the granted calls on an auction do to the ledger: open, bid, seal, award, cancel.
-use Rattle.std.specs.Prelude.{ℕ, ◌+◌, ◌-◌, List, [], map, replicate, slice_set}
+use Rattle.std.specs.Prelude.{ℕ, ◌+◌, ◌-◌, List, map, replicate, slice_set}
 use Rattle.roll.specs.Rows.{each_with}
 use Rattle.roll.specs.Sums.{sum_of}
 use Rattle.account.specs.Settling.{charged, claiming}

@@ -7,7 +7,7 @@ use Rattle.lines.specs.declared.writer.Numbers.TheVariants.{Empty, One, Two, Thr
 use Rattle.lines.specs.declared.writer.Line.TheVariants.{Granted, Refused, Unread}
 use Rattle.command.specs.declared.unreadable.Unreadable.{Unreadable}
 use Rattle.command.specs.declared.unreadable.Unreadable.TheVariants.{UnknownLetter, CutShort, LongFile, PageEnd}
-use Rattle.lines.specs.Lines.{Modest, all_below, line, numbers_in, text_of}
+use Rattle.lines.specs.Lines.{Modest, all_below, numbers_in, text_of}
 use Rattle.lines.specs.Page.{spaced}
 use Rattle.command.specs.Unreadable.{number_of}
 use Rattle.lines.proofs.Lay.{length_line}

@@ -1,9 +1,7 @@
 -- What is done with the rights of one auction leaves those of the others as they are.
-use Rattle.std.proofs.Common.{◌≡◌, ℕ, zero, suc, ◌+◌, ◌<◌, ◌≤◌, Bool, true, false, cond, leb, ◌⊎◌, List, [], ◌∷◌, ◌++◌, map, get_or, take, drop, set, Some, None, Option, sym, refl, ap, ◌∙◌, inl, inr, arith, take-append-drop}
-use mathlib.Core.List.{map-map}
-use Rattle.std.proofs.lemmas.List.{get_or-set_other, get_or-set_same, map-append}
+use Rattle.std.proofs.Common.{◌≡◌, ℕ, zero, suc, ◌+◌, Bool, true, false, cond, leb, List, [], ◌∷◌, ◌++◌, map, get_or, take, drop, set, None, Option, sym, refl, ap, ◌∙◌, arith, take-append-drop}
+use Rattle.std.proofs.lemmas.List.{get_or-set_other, map-append}
 use Rattle.roll.specs.Rows.{each_with}
-use Rattle.roll.specs.Sums.{sum_of}
 use Rattle.rights.specs.Cuts.{curtailed, cut_hour, cut_row, limit_at, total_held}
 use Rattle.rights.specs.Holdings.{mw_of, no_hour, row_at, with_row}
 use Rattle.rights.specs.Returns.{restored}

@@ -1,5 +1,5 @@
 -- MW in all under transfers, returns, cancels and awards.
-use Rattle.std.proofs.Common.{◌≡◌, ℕ, ◌+◌, ◌-◌, ◌*◌, ◌<◌, ◌≤◌, true, ◌≢◌, ◌⊎◌, List, [], length, get_or, set, refl, ap, arith, get_or-set_other}
+use Rattle.std.proofs.Common.{◌≡◌, ℕ, ◌+◌, ◌-◌, ◌*◌, ◌<◌, ◌≤◌, true, ◌≢◌, ◌⊎◌, List, [], length, get_or, refl, ap, arith, get_or-set_other}
 use Rattle.std.proofs.lemmas.Bool.{leb-true}
 use Rattle.roll.specs.Rows.{each_with}
 use Rattle.roll.proofs.Changes.{set_up, set_down, sum_up, sum_down, sum_each, each_up}

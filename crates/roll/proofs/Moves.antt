@@ -1,7 +1,7 @@
 -- What the moves of a roll do to its row of places: over any records.
 use Rattle.std.proofs.Common.{◌≡◌, ℕ, ◌+◌, ◌-◌, ◌<◌, ◌≤◌, Bool, List, [], ◌∷◌, ◌++◌, length, get_or, take, drop, set, sym, refl, ap, ◌∙◌, arith, length-append, length-drop}
 use borrow.Rule.Slice.PartMut.{put_mid}
-use Rattle.std.proofs.lemmas.List.{append_assoc, append-nil, drop_all, drop-append-le, drop_at, drop-drop, drop_more, drop-set-lt, get_or-append_right, get_or-drop, length_push, length-take, set_at, take-append-drop, take_at, take_more, take_more_set, take_rest, take-set-le, take-take}
+use Rattle.std.proofs.lemmas.List.{append_assoc, append-nil, drop_all, drop-append-le, drop_at, drop-drop, drop_more, drop-set-lt, get_or-append_right, get_or-drop, length_push, length-take, set_at, take_at, take_more, take_more_set, take_rest, take-set-le, take-take}
 use Rattle.std.proofs.lemmas.Slice.{between_is, drop-append-drop}
 use Rattle.roll.specs.Rolls.{behind, inserted, laid}
 use Rattle.roll.proofs.Behind.{behind_within}

@@ -1,5 +1,5 @@
 -- Rows of records changed one after another, each by the value at its place: the steps of a loop.
-use Rattle.std.proofs.Common.{◌≡◌, ℕ, zero, suc, pred, ◌+◌, ◌<◌, ◌≤◌, List, [], ◌∷◌, length, get_or, take, set, sym, refl, ap, ◌∙◌, le_of_suc-le-suc, add-one, arith}
+use Rattle.std.proofs.Common.{◌≡◌, ℕ, zero, suc, pred, ◌+◌, ◌<◌, ◌≤◌, List, [], ◌∷◌, length, get_or, take, set, refl, ap, ◌∙◌, le_of_suc-le-suc, add-one, arith}
 use Rattle.roll.specs.Rows.{each_with}
 use Rattle.roll.specs.Sums.{sum_of}
 

@@ -1,25 +1,23 @@
 -- A covered participant stays covered, but for a move of the day.
-use Rattle.std.proofs.Common.{◌≡◌, ℕ, ◌+◌, ◌-◌, ◌<◌, ◌≤◌, min, Bool, true, false, cond, ◌⊎◌, List, get_or, Ok, Err, Result, sym, refl, ap, ◌∙◌, subst, inl, inr, arith}
+use Rattle.std.proofs.Common.{◌≡◌, ℕ, ◌+◌, ◌-◌, ◌≤◌, Bool, true, false, cond, ◌⊎◌, List, get_or, Result, sym, refl, ap, ◌∙◌, subst, inl, inr, arith}
 use Rattle.std.proofs.lemmas.Bool.{cases_eq, cases_lt}
 use Rattle.std.proofs.lemmas.Bool.Decides.{nat_tests}
-use Rattle.auction.specs.Award.{dues_of}
 use Rattle.collateral.specs.Cover.{Added, Took}
-use Rattle.ledger.specs.Auctions.{held_in}
 use Rattle.ledger.specs.Ledgers.{auction_at, on_day}
-use Rattle.ledger.specs.Limits.{Cover, all_limits, credit_limit, held_sums, overdue_by, owes}
+use Rattle.ledger.specs.Limits.{Cover, all_limits, credit_limit, held_sums, owes}
 use Rattle.ledger.specs.Moves.{account_paid}
 use Rattle.ledger.specs.Sound.{Sound}
-use Rattle.ledger.specs.Stages.{outcome, sealed_at}
+use Rattle.ledger.specs.Stages.{sealed_at}
 use Rattle.ledger.specs.declared.auctions.Auction.{Auction}
 use Rattle.ledger.specs.declared.ledgers.Ledger.{Ledger}
 use Rattle.ledger.proofs.Kept.{at_number}
-use Rattle.ledger.proofs.Loads.{due_held, held_award, held_bid, held_cancel, held_new, held_open, held_put, held_return, held_seal, limit_found, overdue_owed, owes_award, owes_curtail, owes_draw, owes_invoice, owes_new, owes_payment, owes_payout}
+use Rattle.ledger.proofs.Loads.{due_held, held_award, held_bid, held_cancel, held_new, held_open, held_put, held_return, held_seal, limit_found, owes_award, owes_curtail, owes_draw, owes_invoice, owes_new, owes_payment, owes_payout}
 use Rattle.rules.specs.declared.refusals.Refusal.{Refusal}
 use Rattle.rules.specs.Calls.{Call, Reply, add_collateral, withdraw, open_auction, place_bid, seal_auction, award_auction, cancel_auction, transfer_rights, return_rights, curtail_rights, send_invoice, pay_invoices, draw_overdue, pay_balance, move_day}
 use Rattle.rules.specs.Law.{Covered, CoveredDays, CoveredIfMoved, History, Participant, begun, called}
 use Rattle.rules.specs.Moments.{Moment, cover_today, limit}
 use Rattle.rules.specs.Steps.{Adds, Draws, Leaves, Step, Withdraws, bid_of, day_table, direction_of, draw_table, drawn, withdraw_table}
-use Rattle.rules.specs.Tables.{Row, answers, is_granted, passes}
+use Rattle.rules.specs.Tables.{Row, is_granted, passes}
 use Rattle.rules.proofs.Granted.{Passed, a_participant, an_auction, granted_passes, granted_value, leaves_keeps, passed, stage_sealed}
 use Rattle.rules.proofs.Soundness.{sound}
 

@@ -1,28 +1,23 @@
 -- Nothing done in one direction touches an auction of another.
-use Rattle.std.proofs.Common.{◌≡◌, ℕ, ◌+◌, ◌-◌, ◌<◌, ◌≤◌, Bool, true, false, cond, ◌&&◌, eqb, ◌⊎◌, List, [], map, length, get_or, set, Some, None, Option, Result, sym, refl, ap, ◌∙◌, subst, inl, inr, arith}
+use Rattle.std.proofs.Common.{◌≡◌, ℕ, ◌-◌, ◌<◌, Bool, true, false, cond, ◌&&◌, length, get_or, set, None, sym, refl, ap, ◌∙◌, subst, arith}
 use Rattle.std.proofs.lemmas.List.{get_or-map, get_or-set_other}
-use Rattle.std.proofs.lemmas.Bool.{cases_eq}
 use Rattle.std.proofs.lemmas.Bool.Decides.{nat_tests}
 use Rattle.ledger.specs.Auctions.{is_awarded, no_auction, price_at, same_way}
 use Rattle.ledger.specs.Bounds.{may_enter}
 use Rattle.ledger.specs.Ledgers.{auction_at}
 use Rattle.ledger.specs.Moves.{account_paid, price_towards, prices_towards}
-use Rattle.ledger.specs.Sound.{Sound}
 use Rattle.ledger.specs.Stages.{outcome}
 use Rattle.ledger.specs.declared.auctions.Auction.{Auction}
 use Rattle.ledger.specs.declared.auctions.Direction.{Direction}
 use Rattle.ledger.specs.declared.ledgers.Ledger.{Ledger}
 use Rattle.rights.specs.Holdings.{fewer, handed, more, no_hour, row_at, with_row}
 use Rattle.rights.specs.Returns.{restored, taken}
-use Rattle.rights.specs.declared.hours.Hour.{Hour}
 use Rattle.rights.proofs.Apart.{curtailed_other, over_same, restored_other, row_other}
-use Rattle.rules.specs.declared.refusals.Refusal.{Refusal}
-use Rattle.rules.specs.Calls.{Call, Reply, add_collateral, withdraw, open_auction, place_bid, seal_auction, award_auction, cancel_auction, transfer_rights, return_rights, curtail_rights, send_invoice, pay_invoices, draw_overdue, pay_balance, move_day}
-use Rattle.rules.specs.Law.{DirectionsApart, Elsewhere, History, Untouched, acts_in}
-use Rattle.rules.specs.Moments.{Moment}
-use Rattle.rules.specs.Steps.{Step, direction_of, draw_table, drawn, not_opened}
+use Rattle.rules.specs.Calls.{add_collateral, withdraw, open_auction, place_bid, seal_auction, award_auction, cancel_auction, transfer_rights, return_rights, curtail_rights, send_invoice, pay_invoices, draw_overdue, pay_balance, move_day}
+use Rattle.rules.specs.Law.{DirectionsApart, Untouched}
+use Rattle.rules.specs.Steps.{direction_of, draw_table, drawn}
 use Rattle.rules.specs.Tables.{passes}
-use Rattle.rules.proofs.Granted.{an_auction, both_pass, holds_if, leaves_keeps}
+use Rattle.rules.proofs.Granted.{holds_if, leaves_keeps}
 use Rattle.rules.proofs.Soundness.{sound}
 
 -- a direction is the same as itself, and one after the other

@@ -1,7 +1,7 @@
 -- What is known where a call is granted: every test of its table failed.
-use Rattle.std.proofs.Common.{◌≡◌, ℕ, ◌+◌, ◌<◌, ◌≤◌, Bool, true, false, cond, not, ◌&&◌, ◌||◌, eqb, ltb, leb, ◌⊎◌, List, [], ◌∷◌, Ok, Err, Result, sym, refl, ap, ◌∙◌, subst, inl, inr, arith}
+use Rattle.std.proofs.Common.{◌≡◌, ℕ, ◌+◌, ◌≤◌, Bool, true, false, cond, not, ◌&&◌, ◌||◌, List, [], ◌∷◌, Ok, Err, Result, sym, refl, ap, subst, arith}
 use Rattle.std.proofs.lemmas.Bool.Decides.{nat_tests}
-use Rattle.ledger.specs.Auctions.{is_awarded, is_open, is_sealed}
+use Rattle.ledger.specs.Auctions.{is_open, is_sealed}
 use Rattle.ledger.specs.declared.auctions.Stage.{Stage}
 use Rattle.ledger.specs.declared.auctions.Stage.TheVariants.{Open, Sealed, Awarded, Cancelled}
 use Rattle.ledger.specs.declared.ledgers.Ledger.{Ledger}

@@ -1,18 +1,17 @@
 -- The credit law, of every history.
-use Rattle.std.proofs.Common.{◌≡◌, ℕ, suc, ◌+◌, ◌-◌, ◌<◌, ◌≤◌, min, Bool, true, false, cond, List, [], ◌∷◌, ◌++◌, take, drop, Ok, Err, Result, sym, refl, ap, ◌∙◌, subst, arith}
+use Rattle.std.proofs.Common.{◌≡◌, ℕ, suc, ◌-◌, ◌<◌, ◌≤◌, true, false, cond, List, [], ◌∷◌, ◌++◌, take, drop, Ok, Result, sym, ap, ◌∙◌, subst, arith}
 use Rattle.std.proofs.lemmas.Bool.Decides.{nat_tests}
 use Rattle.auction.specs.Award.{pays}
 use Rattle.auction.specs.Bids.{Within, bids_of, kept_of}
-use Rattle.auction.specs.Charge.{worst_charge}
 use Rattle.auction.specs.Rivals.{Bidder, Stands}
-use Rattle.auction.specs.Seal.{kept_count, left_out}
+use Rattle.auction.specs.Seal.{left_out}
 use Rattle.auction.specs.declared.bids.Bid.{Bid}
 use Rattle.auction.specs.declared.sheets.Sheet.{Sheet}
 use Rattle.auction.proofs.Fronts.{next_out, rightly_left_out}
 use Rattle.auction.proofs.Rivals.{worst_exact}
 use Rattle.auction.proofs.Settled.{worst_enough}
 use Rattle.ledger.specs.Ledgers.{auction_at, sheet_at}
-use Rattle.ledger.specs.Limits.{held_sums, overdue_by, owes}
+use Rattle.ledger.specs.Limits.{overdue_by}
 use Rattle.ledger.specs.Moves.{account_paid}
 use Rattle.ledger.specs.Sound.{Sound, SoundAuction, Staged}
 use Rattle.ledger.specs.declared.auctions.Auction.{Auction}
@@ -22,11 +21,11 @@ use Rattle.ledger.proofs.Kept.{at_number}
 use Rattle.ledger.proofs.Loads.{overdue_owed}
 use Rattle.ledger.proofs.Sheets.{within_take}
 use Rattle.rules.specs.declared.refusals.Refusal.{Refusal}
-use Rattle.rules.specs.Calls.{Call, Reply, add_collateral, withdraw, open_auction, place_bid, seal_auction, award_auction, cancel_auction, transfer_rights, return_rights, curtail_rights, send_invoice, pay_invoices, draw_overdue, pay_balance, move_day}
-use Rattle.rules.specs.Law.{AlwaysSound, Covered, CoveredDays, CreditLaw, CreditLawOf, HeldExactly, History, IsSealed, LeftOutRightly, Participant, RefusalsChangeNothing, StaysCovered}
-use Rattle.rules.specs.Moments.{Moment, cover_today}
+use Rattle.rules.specs.Calls.{add_collateral, withdraw, open_auction, place_bid, seal_auction, award_auction, cancel_auction, transfer_rights, return_rights, curtail_rights, send_invoice, pay_invoices, draw_overdue, pay_balance, move_day}
+use Rattle.rules.specs.Law.{AlwaysSound, Covered, CreditLaw, HeldExactly, IsSealed, LeftOutRightly, Participant, RefusalsChangeNothing}
+use Rattle.rules.specs.Moments.{Moment}
 use Rattle.rules.specs.Steps.{Leaves, Step, draw_table, drawn}
-use Rattle.rules.specs.Tables.{Row, answers, is_granted, passes}
+use Rattle.rules.specs.Tables.{Row, is_granted, passes}
 use Rattle.rules.proofs.Coverage.{covered}
 use Rattle.rules.proofs.Granted.{granted_passes, granted_value}
 use Rattle.rules.proofs.Soundness.{sound}

@@ -1,5 +1,5 @@
 -- Every history keeps the ledger sound.
-use Rattle.std.proofs.Common.{◌≡◌, ℕ, ◌+◌, ◌<◌, ◌≤◌, Bool, true, false, cond, ltb, Result, sym, refl, subst, arith}
+use Rattle.std.proofs.Common.{◌≤◌, Bool, true, false, cond, ltb, Result, sym, refl, subst, arith}
 use Rattle.std.proofs.lemmas.Bool.Decides.{nat_tests}
 use Rattle.ledger.specs.Auctions.{is_awarded, is_open}
 use Rattle.ledger.specs.Ledgers.{auction_at}

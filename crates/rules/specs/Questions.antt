@@ -1,5 +1,5 @@
 -- The four questions, which change nothing.
-use Rattle.std.specs.Prelude.{ℕ, ◌+◌, ◌-◌, cond, not, ◌||◌, List, [], ◌∷◌, Result, slice_index_or}
+use Rattle.std.specs.Prelude.{ℕ, ◌-◌, [], ◌∷◌, Result, slice_index_or}
 use Rattle.ledger.specs.Auctions.{outside}
 use Rattle.ledger.specs.Ledgers.{auction_at, sheet_at}
 use Rattle.ledger.specs.Limits.{owes}
@@ -8,7 +8,7 @@ use Rattle.rules.specs.declared.refusals.Refusal.{Refusal}
 use Rattle.rules.specs.declared.refusals.Refusal.TheVariants.{Participant, Unopened, Hours}
 use Rattle.rules.specs.Moments.{Moment, limit}
 use Rattle.rules.specs.Steps.{not_opened, stranger}
-use Rattle.rules.specs.Tables.{Row, ◌⇒◌, answers}
+use Rattle.rules.specs.Tables.{◌⇒◌, answers}
 
 abbrev pub limit_asked : ℕ → Moment → Result ℕ Refusal
 limit_asked p m = answers ((stranger p ⇒ Participant) ∷ []) (limit m p)

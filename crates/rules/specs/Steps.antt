@@ -1,7 +1,7 @@
 -- What each call answers and leaves.
 use Rattle.std.specs.Prelude.{◌≡◌, ℕ, ◌+◌, ◌-◌, min, Bool, true, false, cond, not, ◌&&◌, ◌||◌, ltb, leb, List, [], ◌∷◌, Ok, Err, Result, ◌==◌, nat_eq, nat_le, nat_lt}
 use Rattle.roll.specs.Sums.{sum_of}
-use Rattle.account.specs.Invoices.{owed, still_open}
+use Rattle.account.specs.Invoices.{still_open}
 use Rattle.account.specs.Settling.{credited, paid, to_pay}
 use Rattle.auction.specs.Bids.{bids_of, mw_all, with_bid}
 use Rattle.auction.specs.Charge.{worst_charge}

@@ -90,8 +90,8 @@ impl Answer for Netting {
 
 // The numbers of an answer; a refusal passes on with its cause and layer.
 pub(crate) fn shown<A: Answer>(reply: Result<A, Refusal>) -> Result<Numbers, Refused>
-    ensures value { shown_of result ≡ reply_shown shows reply }
-    ensures room { Fitting fits reply → FitInLine result }
+    ensures value { shown_of result ≡ reply_shown A.shows reply }
+    ensures room { Fitting A.fits reply → FitInLine result }
 {
     Ok(reply?.numbers())
 }

@@ -16,7 +16,7 @@ pub(crate) fn perform<C: Collateral>(
     book: &mut Book<C>,
     command: Command,
 ) -> Result<Numbers, Refused>
-    ensures value { Performed (call_of (meaning_of command.entry)) (moment cover verdict book.old) result (moment cover verdict book.new) }
+    ensures value { Performed (call_of (meaning_of command.entry)) (moment C.cover C.verdict book.old) result (moment C.cover C.verdict book.new) }
     ensures room { FitInLine result }
 {
     match command {

@@ -14,7 +14,7 @@ use std::io::Write;
 // Runs commands from a place of the input on and fills the page with their lines, until the input ends, the reader
 // refuses, or the page has no room for another line: then the run goes on at the place answered, with a new page.
 pub fn run<C: Collateral>(book: &mut Book<C>, input: &[u8], place: usize, page: &mut [u8]) -> Ran
-    ensures value { RanOn input.now place page.old (moment cover verdict book.old) result page.new (moment cover verdict book.new) }
+    ensures value { RanOn input.now place page.old (moment C.cover C.verdict book.old) result page.new (moment C.cover C.verdict book.new) }
     ensures ended { goes_on result.outcome ≡ false }
     ensures within { result.at ≤ length page.old }
     ensures law { LawAfterRuns }
@@ -39,7 +39,7 @@ pub fn run_file<C: Collateral, W: Write>(
     input: &[u8],
     out: &mut W,
 ) -> io::Result<()>
-    ensures value { RanPages input.now (moment cover verdict book.old) (moment cover verdict book.new) }
+    ensures value { RanPages input.now (moment C.cover C.verdict book.old) (moment C.cover C.verdict book.new) }
     ensures law { LawAfterFiles }
 {
     let mut page = [0; PAGE];

@@ -103,8 +103,8 @@ pub fn run_one<C: Collateral>(
     page: &mut [u8],
     at: usize,
 ) -> Ran
-    ensures value { Runs (task input.now place page.old at) place page.old at (moment cover verdict book.old) result page.new (moment cover verdict book.new) }
-    ensures refused { is_refused result.outcome ≡ true → moment cover verdict book.new ≡ moment cover verdict book.old }
+    ensures value { Runs (task input.now place page.old at) place page.old at (moment C.cover C.verdict book.old) result page.new (moment C.cover C.verdict book.new) }
+    ensures refused { is_refused result.outcome ≡ true → moment C.cover C.verdict book.new ≡ moment C.cover C.verdict book.old }
     ensures within { at ≤ length page.old → result.at ≤ length page.old }
     ensures onward { goes_on result.outcome ≡ true → (place < result.place) × (result.place ≤ length input.now) }
 {

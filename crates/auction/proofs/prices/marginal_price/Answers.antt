@@ -1,8 +1,8 @@
-use Rattle.std.proofs.Common.{◌≡◌, ◌≤◌, sym, ap, ◌∙◌, subst, arith}
+use Rattle.std.proofs.Common.{◌≡◌, sym, ap, ◌∙◌, subst, arith}
 use Rattle.roll.specs.Sums.{most_of}
 use Rattle.roll.proofs.Maxima.{most_step}
 use Rattle.auction.specs.Bids.{kept_of}
-use Rattle.auction.specs.Award.{reaching_price, kept_lists, price_of, total_mw, Clears}
+use Rattle.auction.specs.Award.{reaching_price, kept_lists, price_of, Clears}
 use Rattle.auction.proofs.Marginal.{price_found, price_clears, price_enough, total_zero}
 use Rattle.auction.proofs.prices.marginal_price.Goals as goal
 

@@ -1,5 +1,5 @@
-use Rattle.std.proofs.Common.{◌≡◌, ℕ, ◌-◌, ◌/◌, ◌<◌, ◌≤◌, List, map, sym, subst, arith}
-use Rattle.auction.specs.Award.{total_shares, share_level, LargestLevel}
+use Rattle.std.proofs.Common.{◌≡◌, ◌-◌, ◌/◌, map, sym, subst, arith}
+use Rattle.auction.specs.Award.{share_level, LargestLevel}
 use Rattle.auction.specs.Demands.{at_of}
 use Rattle.auction.proofs.Levels.{level_reached, level_passed, level_within, largest_level}
 use Rattle.auction.proofs.shares.share_level.Goals as goal

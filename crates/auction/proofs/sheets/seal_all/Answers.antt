@@ -1,7 +1,6 @@
 use Rattle.std.proofs.Common.{arith, rules}
 use Rattle.std.proofs.lemmas.List.{take_all}
 use Rattle.roll.proofs.Rows.{with_step}
-use Rattle.auction.specs.Bids.{no_bids}
 use Rattle.auction.specs.Seal.{sealed}
 use Rattle.auction.proofs.sheets.seal_all.Goals as goal
 

@@ -6,20 +6,20 @@ use Rattle.command_tests.proofs.lines_written.refusals.Goals as goal
 
 pub says-requires : goal.says-requires
 unfolding line
-says-requires c =
+says-requires g c =
     let d0 = length-decimal-le 2 10 (omega arith) (omega arith) (omega arith) in
     (simp length-append (omega arith), omega arith)
 
 pub says-requires-2 : goal.says-requires-2
 unfolding line
-says-requires-2 c =
+says-requires-2 g c =
     let d0 = length-decimal-le 2 12 (omega arith) (omega arith) (omega arith) in
     let d1 = length-decimal-le 2 34 (omega arith) (omega arith) (omega arith) in
     (simp length-append (omega arith), omega arith)
 
 pub says-requires-3 : goal.says-requires-3
 unfolding line
-says-requires-3 c =
+says-requires-3 g c =
     let d0 = length-decimal-le 2 43 (omega arith) (omega arith) (omega arith) in
     let d1 = length-decimal-le 5 60000 (omega arith) (omega arith) (omega arith) in
     (simp length-append (omega arith), omega arith)

@@ -1,4 +1,4 @@
-use Rattle.std.proofs.Common.{ap, ◌∙◌, arith}
+use Rattle.std.proofs.Common.{ap, ◌∙◌}
 use Rattle.auction.specs.Bids.{bids_of}
 use Rattle.auction.specs.Charge.{mw_from}
 use Rattle.auction.proofs.Worst.{from_zero}

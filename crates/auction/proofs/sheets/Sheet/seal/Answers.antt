@@ -2,10 +2,9 @@ use Rattle.std.proofs.Common.{◌≡◌, List, sym, subst}
 use Rattle.auction.specs.declared.bids.Bid.{Bid}
 use Rattle.auction.specs.declared.products.Product.{Product}
 use Rattle.auction.specs.declared.sheets.Sheet.{Sheet}
-use Rattle.auction.specs.Bids.{bids_of, kept_of}
+use Rattle.auction.specs.Bids.{bids_of}
 use Rattle.auction.specs.Charge.{worst_charge}
-use Rattle.auction.specs.Seal.{kept_count, kept_front, sealed, LongestFront}
-use Rattle.auction.specs.Rivals.{PaysAtMost, MadeToPay}
+use Rattle.auction.specs.Seal.{kept_count, kept_front, LongestFront}
 use Rattle.auction.proofs.Settled.{worst_enough}
 use Rattle.auction.proofs.Rivals.{worst_exact}
 use Rattle.auction.proofs.Fronts.{longest_front, rightly_left_out}

@@ -1,4 +1,4 @@
-use Rattle.std.proofs.Common.{◌≡◌, sym, ap, ◌∙◌, subst}
+use Rattle.std.proofs.Common.{◌≡◌, sym, subst}
 use Rattle.auction.specs.Bids.{bids_of}
 use Rattle.auction.specs.Charge.{worst_charge}
 use Rattle.auction.specs.Rivals.{PaysAtMost, MadeToPay}

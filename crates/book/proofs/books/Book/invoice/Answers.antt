@@ -1,6 +1,4 @@
-use Rattle.std.proofs.Common.{◌-◌, ◌<◌, arith}
-use Rattle.account.specs.Settling.{to_pay}
-use Rattle.ledger.specs.Ledgers.{account_at}
+use Rattle.std.proofs.Common.{arith}
 use Rattle.ledger.proofs.Once.{sound_held}
 use Rattle.ledger.proofs.Sounds.{sound_invoice}
 use Rattle.book.proofs.Again.{again}

@@ -1,4 +1,4 @@
-use Rattle.std.proofs.Common.{◌≡◌, ◌+◌, List, length, take}
+use Rattle.std.proofs.Common.{◌≡◌, length, take}
 use Rattle.ledger.specs.Limits.{all_limits}
 use Rattle.book.proofs.books.Book.limits.Given as goal
 

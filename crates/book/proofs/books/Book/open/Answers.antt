@@ -1,4 +1,4 @@
-use Rattle.std.proofs.Common.{◌≡◌, ◌+◌, ◌<◌, ◌≤◌, ap, ◌∙◌, arith}
+use Rattle.std.proofs.Common.{ap, ◌∙◌, arith}
 use Rattle.ledger.specs.Stages.{opened_with}
 use Rattle.ledger.proofs.Once.{sound_held}
 use Rattle.ledger.proofs.Sounds.{sound_open}

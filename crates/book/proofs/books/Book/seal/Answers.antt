@@ -7,7 +7,6 @@ use Rattle.ledger.specs.Limits.{all_limits}
 use Rattle.ledger.specs.Sound.{Sound, SoundAuction}
 use Rattle.ledger.specs.Stages.{auction_sealed, bids_kept, bids_left_out, sealed_at}
 use Rattle.ledger.specs.declared.auctions.Auction.{Auction}
-use Rattle.ledger.specs.declared.auctions.Stage.TheVariants.{Sealed}
 use Rattle.ledger.specs.declared.ledgers.Ledger.{Ledger}
 use Rattle.ledger.proofs.Kept.{at_number, auction_seal}
 use Rattle.ledger.proofs.Once.{sound_held}

@@ -1,7 +1,7 @@
-use Rattle.std.proofs.Common.{◌≡◌, ◌-◌, ◌<◌, ◌≤◌, true, length, take, drop, sym, ap, ◌∙◌, arith, rules}
+use Rattle.std.proofs.Common.{◌≡◌, ◌-◌, ◌<◌, ◌≤◌, true, length, take, drop, sym, ◌∙◌, arith, rules}
 use Rattle.std.proofs.lemmas.Bool.{le-ltb, lt-ltb}
 use Rattle.roll.specs.Rolls.{laid}
-use Rattle.collateral.specs.Guarantees.{has_free, held_in, valid}
+use Rattle.collateral.specs.Guarantees.{held_in, valid}
 use Rattle.collateral.proofs.Folders.{put_after, put_value, rest_length}
 use Rattle.collateral.proofs.folder.Folder.put.Goals as goal
 

@@ -1,4 +1,4 @@
-use Rattle.std.proofs.Common.{◌-◌, ◌<◌, ◌≤◌, length, get_or, arith, rules}
+use Rattle.std.proofs.Common.{◌-◌, get_or, arith, rules}
 use Rattle.std.proofs.lemmas.List.{take_all}
 use Rattle.roll.proofs.Sums.{sum_more}
 use Rattle.ledger.specs.Auctions.{held_in, no_auction}

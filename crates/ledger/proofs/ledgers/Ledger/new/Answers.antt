@@ -1,6 +1,3 @@
-use Rattle.std.proofs.Common.{rules}
-use Rattle.ledger.specs.Ledgers.{new_ledger}
-use Rattle.ledger.specs.Sound.{Sound}
 use Rattle.ledger.proofs.Sounds.{sound_new}
 use Rattle.ledger.proofs.ledgers.Ledger.new.Goals as goal
 
