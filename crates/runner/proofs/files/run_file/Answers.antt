@@ -1,4 +1,4 @@
-use Rattle.std.proofs.Common.{refl, ◌∙◌, arith}
+use Rattle.std.proofs.Common.{refl, arith}
 use Rattle.runner.specs.Files.{no_page, one_page}
 use Rattle.runner.proofs.Filing.{law_after_files}
 use Rattle.runner.proofs.files.run_file.Goals as goal

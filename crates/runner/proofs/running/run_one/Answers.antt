@@ -1,4 +1,4 @@
-use Rattle.std.proofs.Common.{◌≡◌, true, Ok, sym, refl, ap, ◌∙◌, subst, arith, rules}
+use Rattle.std.proofs.Common.{Ok, sym, refl, ap, ◌∙◌, subst, arith, rules}
 use Rattle.runner.specs.Found.{task_of}
 use Rattle.runner.specs.Running.{OnwardTo, is_refused}
 use Rattle.runner.proofs.Tasks.{answered, page_ends, refused_rests, room_there, runs_as, same_outcome, wrote_nothing}
