@@ -1,6 +1,6 @@
 -- The marginal price: the kept bids reach the capacity at it, and not above it.
 use Rattle.std.proofs.Common.{◌≡◌, ℕ, suc, ◌<◌, ◌≤◌, Bool, true, false, cond, leb, ◌⊎◌, List, [], ◌∷◌, ◌++◌, length, get_or, take, sym, refl, ap, ◌∙◌, inl, inr, arith}
-use Rattle.std.specs.List.{AllByRecursion as All}
+use Rattle.std.specs.List.{AllByRecursion}
 use Rattle.std.proofs.lemmas.List.{take_all}
 use Rattle.std.proofs.lemmas.Bool.Decides.{nat_tests}
 use Rattle.std.proofs.lemmas.Bool.{cases_lt, leb-true}
@@ -101,7 +101,7 @@ price_found capacity sheets found i over e all =
     ∙ sym (price_top capacity (kept_lists sheets) (omega (arith, total_zero (kept_lists sheets))))))
 
 -- the price is at most the highest of a lawful bid
-pub price_lawful : (capacity : ℕ) (kept : List (List Bid)) → ((i : ℕ) → i < length kept → All Lawful (get_or kept i [])) → price_of capacity kept ≤ 1000000
+pub price_lawful : (capacity : ℕ) (kept : List (List Bid)) → ((i : ℕ) → i < length kept → AllByRecursion Lawful (get_or kept i [])) → price_of capacity kept ≤ 1000000
 price_lawful capacity kept ok =
     let t : top capacity kept ≤ 1000000 = most_under (λ bs. most_of (reaching_price capacity kept) bs) 1000000 kept [] (λ i lt. most_all Lawful (reaching_price capacity kept) 1000000 (get_or kept i []) (λ b h. grind (arith, nat_tests)) (ok i lt)) in
     grind (arith, nat_tests)

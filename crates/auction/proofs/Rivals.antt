@@ -1,6 +1,6 @@
 -- Some bids of the others make a participant pay exactly its worst charge: one rival takes up the rest of the capacity.
 use Rattle.std.proofs.Common.{◌≡◌, ℕ, zero, suc, ◌+◌, ◌-◌, ◌<◌, ◌≤◌, max, cond, leb, ◌⊎◌, List, [], ◌∷◌, map, length, get_or, set, replicate, sym, refl, ap, ◌∙◌, inl, inr, le_of_suc-le-suc, arith, length-set}
-use Rattle.std.specs.List.{AllByRecursion as All}
+use Rattle.std.specs.List.{AllByRecursion}
 use Rattle.std.proofs.lemmas.Bool.Decides.{nat_tests}
 use Rattle.std.proofs.lemmas.Bool.{cases_lt, cases_eq}
 use Rattle.roll.specs.Sums.{sum_of, most_of}
@@ -97,7 +97,7 @@ rival_within capacity p zero h c q = omega arith
 rival_within capacity p (suc g) h c q = omega arith
 
 -- against such a rival the price is p, and the bidder gets all its MW from p on
-module _ (capacity p i : ℕ) (bs : List Bid) (own : i < 12) (fits : mw_all bs ≤ capacity) (ok : All Lawful bs) (pr : Priced p bs) (pos : 0 < p) where
+module _ (capacity p i : ℕ) (bs : List Bid) (own : i < 12) (fits : mw_all bs ≤ capacity) (ok : AllByRecursion Lawful bs) (pr : Priced p bs) (pos : 0 < p) where
   abbrev gap : ℕ
   gap = capacity - mw_from p bs
 

@@ -1,7 +1,7 @@
 -- Bids, their limits, and a participant's sheet of bids in one auction.
 -- A bid asks for MW at a price, in cents per MW and hour. A sheet has the bids in their order: higher price first, level ones by arrival.
 use Rattle.std.specs.Prelude.{ℕ, ◌+◌, ◌≤◌, Bool, List, length, take, replicate, nat_le, nat_lt}
-use Rattle.std.specs.List.{AllByRecursion as All}
+use Rattle.std.specs.List.{AllByRecursion}
 use Rattle.roll.specs.Rolls.{inserted, laid}
 use Rattle.roll.specs.Sums.{sum_of}
 use Rattle.auction.specs.declared.bids.Bid.{Bid}
@@ -17,7 +17,7 @@ mw_all bs = sum_of (λ b. b.mw) bs
 
 -- a participant has at most four bids in an auction, their MW together at most the capacity
 abbrev pub Within : ℕ → List Bid → Type 0
-Within capacity bs = (length bs ≤ 4) × (mw_all bs ≤ capacity) × All Lawful bs
+Within capacity bs = (length bs ≤ 4) × (mw_all bs ≤ capacity) × AllByRecursion Lawful bs
 
 -- bids stand by higher price
 abbrev pub dearer : Bid → Bid → Bool

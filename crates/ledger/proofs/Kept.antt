@@ -6,7 +6,7 @@ use Rattle.std.proofs.lemmas.Bool.{cases_eq}
 use Rattle.roll.specs.Sums.{sum_of}
 use Rattle.roll.proofs.Rows.{set_under, with_at, with_length, with_sum}
 use Rattle.roll.proofs.Sums.{sum_map, sum_set_ge, sum_under}
-use Rattle.std.specs.List.{AllByRecursion as All}
+use Rattle.std.specs.List.{AllByRecursion}
 use Rattle.std.proofs.ByRecursion.{All-take}
 use Rattle.auction.specs.Award.{kept_lists}
 use Rattle.auction.specs.Bids.{Lawful, bids_of, kept_of, mw_all, no_bids, with_bid}
@@ -133,10 +133,10 @@ auction_award x h stage = record {
   staged = λ i lt. rw (freed_at x h i lt) ((subst (λ st. Staged st x.product (get_or x.sheets i no_sheet)) stage (h.staged i lt)).0, refl);
 }
   where
-    kept_lawful : (i : ℕ) → i < 12 → All Lawful (get_or (kept_lists x.sheets) i [])
+    kept_lawful : (i : ℕ) → i < 12 → AllByRecursion Lawful (get_or (kept_lists x.sheets) i [])
     kept_lawful i lt =
         let s : Sheet = get_or x.sheets i no_sheet in
-        subst (All Lawful) (sym (get_or-map kept_of x.sheets i no_sheet [] (omega (arith, h.rows)))) (All-take Lawful s.kept (bids_of s) (h.sheets i lt).bids.2)
+        subst (AllByRecursion Lawful) (sym (get_or-map kept_of x.sheets i no_sheet [] (omega (arith, h.rows)))) (All-take Lawful s.kept (bids_of s) (h.sheets i lt).bids.2)
 
 pub keep_award : (l m : Ledger) (a : ℕ) → SoundAuctions l → 1 ≤ a → a ≤ l.opened → (auction_at l a).stage ≡ Sealed → m.opened ≡ l.opened → m.receipts ≡ l.receipts → m.auctions ≡ set l.auctions (a - 1) (awarded_as (auction_at l a)) → SoundAuctions m
 keep_award l m a h a1 a2 stage n r e =

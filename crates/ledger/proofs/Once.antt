@@ -6,7 +6,7 @@ use base.Stored.{coded_bool, coded_ℕ}
 use native.Mathlib.Bridge.{le_prop}
 use Rattle.std.proofs.Common.{ℕ, Bool, List, [], ◌∷◌}
 use mathlib.Core.Logic.{∥∥₁_elim}
-use Rattle.std.specs.List.{AllByRecursion as All}
+use Rattle.std.specs.List.{AllByRecursion}
 use Rattle.roll.specs.Rolls.{Heads, Ordered}
 use Rattle.account.specs.declared.accounts.Account.{Account}
 use Rattle.auction.specs.Bids.{Lawful, Within}
@@ -21,7 +21,7 @@ use Rattle.ledger.specs.declared.ledgers.Ledger.{Ledger}
 use Rattle.ledger.specs.Bounds.{SoundMoney, SoundRights}
 use Rattle.ledger.specs.Sound.{Priced, Sound, SoundAccount, SoundAccounts, SoundAuction, SoundAuctions, SoundSheet, Staged}
 
-all_once : {X : Type 0} (P : X → Type 0) → ((x : X) → IsProp (P x)) → (xs : List X) → IsProp (All P xs)
+all_once : {X : Type 0} (P : X → Type 0) → ((x : X) → IsProp (P x)) → (xs : List X) → IsProp (AllByRecursion P xs)
 all_once P h [] = Done-prop
 all_once P h (x ∷ xs) = Also-prop (h x) (λ _. all_once P h xs)
 

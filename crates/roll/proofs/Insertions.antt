@@ -1,6 +1,6 @@
 -- A record put into its place of a list: sums, and what holds of each.
 use Rattle.std.proofs.Common.{◌≡◌, ℕ, ◌+◌, ◌≤◌, Bool, List, ◌∷◌, length, take, drop, arith, length-append, length-drop, take-append-drop}
-use Rattle.std.specs.List.{AllByRecursion as All}
+use Rattle.std.specs.List.{AllByRecursion}
 use Rattle.std.proofs.ByRecursion.{All-append, All-take, All-drop}
 use Rattle.roll.specs.Rolls.{behind, inserted, laid}
 use Rattle.roll.specs.Sums.{sum_of}
@@ -14,7 +14,7 @@ module _ {X : Type 0} (first : X → X → Bool) (x : X) where
       let b : sum_of f ys ≡ sum_of f (take n ys) + sum_of f (drop n ys) = rw (take-append-drop n ys) at (sum_append f (take n ys) (drop n ys)) in
       omega arith
 
-  pub all_inserted : (P : X → Type 0) (ys : List X) → P x → All P ys → All P (inserted first x ys)
+  pub all_inserted : (P : X → Type 0) (ys : List X) → P x → AllByRecursion P ys → AllByRecursion P (inserted first x ys)
   all_inserted P ys new all =
       let n : ℕ = behind (λ y. first y x) ys in
       All-append P (take n ys) (x ∷ drop n ys) (All-take P n ys all) (new, All-drop P n ys all)

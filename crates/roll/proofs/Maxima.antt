@@ -1,6 +1,6 @@
 -- Maxima over a list, and the largest number that passes a test.
 use Rattle.std.proofs.Common.{◌≡◌, ℕ, zero, suc, ◌+◌, ◌<◌, ◌≤◌, max, Bool, true, false, cond, ◌⊎◌, List, [], ◌∷◌, ◌++◌, map, length, get_or, take, set, replicate, refl, inl, inr, le_of_suc-le-suc, add-one, arith}
-use Rattle.std.specs.List.{AllByRecursion as All}
+use Rattle.std.specs.List.{AllByRecursion}
 use Rattle.std.proofs.lemmas.Bool.{cases_eq}
 use Rattle.roll.specs.Sums.{most_of, largest_to}
 
@@ -71,6 +71,6 @@ pub most_under : {X : Type 0} (f : X → ℕ) (m : ℕ) (xs : List X) (d : X) �
 most_under f m [] d h = omega arith
 most_under f m (x ∷ xs) d h = let ih = most_under f m xs d (λ k lt. h (suc k) (omega arith)) in omega (arith, h 0 (omega arith))
 
-pub most_all : {X : Type 0} (P : X → Type 0) (f : X → ℕ) (m : ℕ) (xs : List X) → ((x : X) → P x → f x ≤ m) → All P xs → most_of f xs ≤ m
+pub most_all : {X : Type 0} (P : X → Type 0) (f : X → ℕ) (m : ℕ) (xs : List X) → ((x : X) → P x → f x ≤ m) → AllByRecursion P xs → most_of f xs ≤ m
 most_all P f m [] h all = omega arith
 most_all P f m (x ∷ xs) h all = let ih = most_all P f m xs h all.1 in omega (arith, h x all.0)
