@@ -1,10 +1,9 @@
 // Whole stories, from collateral brought in to the last payment.
-use book::Book;
+use book::{Book, Clearing, Cut, Netting, Receipt, Refusal};
 use collateral::cash::Cash;
 use collateral::guarantees::Guarantees;
 use collateral::joined::Joined;
 use collateral::kind::Collateral;
-use rules::{Clearing, Cut, Netting, Receipt, Refusal};
 
 // More than any answer.
 const REFUSED: u64 = u64::MAX;
