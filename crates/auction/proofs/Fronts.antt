@@ -1,5 +1,9 @@
 -- The kept front: within the limit, the longest such, and no bid is left out without need.
-use Rattle.std.proofs.Common.{◌≡◌, ℕ, zero, suc, ◌+◌, ◌<◌, ◌≤◌, Bool, cond, leb, ◌⊎◌, List, [], ◌∷◌, ◌++◌, length, take, drop, ap, inl, inr, le_trans, arith, take-append-drop, take-take}
+use Rattle.std.proofs.Common.{◌≡◌, ℕ, zero, suc, ◌+◌, ◌<◌, ◌≤◌, Bool, true, false, not, cond, leb, ltb, Option, Some, None, get_or, subst, add-one, ◌∙◌, ◌⊎◌, List, [], ◌∷◌, ◌++◌, length, take, drop, ap, inl, inr, le_trans, arith, take-append-drop, take-take}
+use Rattle.std.specs.List.{position_or_len, range_with_len}
+use Rattle.std.specs.Option.{unwrap_or}
+use Rattle.std.proofs.lemmas.List.FromFn.{length-range_with_len, get_or-range_with_len}
+use Rattle.std.proofs.lemmas.List.Sums.{prefix_len-le-length, fails_before_first, passes_at_first}
 use Rattle.std.proofs.lemmas.Bool.Decides.{nat_tests}
 use Rattle.std.proofs.lemmas.Bool.{cases_order, leb-true, leb-false}
 use Rattle.roll.proofs.Sums.{sum_append}
@@ -46,6 +50,36 @@ count_is limit d bs n le fits passes = go (cases_order n (kept_count limit d bs)
         let k = kept_within limit d bs in
         let g = rw (take-take (n + 1) (kept_count limit d bs) bs (omega arith)) at (worst_grows d (n + 1) (take (kept_count limit d bs) bs)) in
         absurd (omega (arith, (longest_front limit d bs).fits))
+
+-- a count found from the front: the bids before the first whose front passes the limit
+module _ (limit : ℕ) (d : Product) (bs : List Bid) where
+  abbrev passes : ℕ → Bool
+  passes n = ltb limit (worst_charge d (take (n + 1) bs))
+
+  abbrev first_out : ℕ
+  first_out = position_or_len passes (range_with_len 0 (length bs))
+
+  within_before : (n : ℕ) → n ≤ first_out → n ≤ length bs → worst_charge d (take n bs) ≤ limit
+  within_before zero e h = omega arith
+  within_before (suc k) e h =
+      let fails = fails_before_first passes (range_with_len 0 (length bs)) k 0 (omega arith) in
+      let at : get_or (range_with_len 0 (length bs)) k 0 ≡ k = omega (arith, get_or-range_with_len 0 (length bs) k 0 (omega arith)) in
+      let no : passes k ≡ false = subst (λ n. passes n ≡ false) at fails in
+      rw (← add-one) (grind (arith, nat_tests))
+
+  passes_then : first_out < length bs → limit < worst_charge d (take (first_out + 1) bs)
+  passes_then h =
+      let holds = passes_at_first passes (range_with_len 0 (length bs)) 0 (omega (arith, length-range_with_len 0 (length bs))) in
+      let at : get_or (range_with_len 0 (length bs)) first_out 0 ≡ first_out = omega (arith, get_or-range_with_len 0 (length bs) first_out 0 h) in
+      let yes : passes first_out ≡ true = subst (λ n. passes n ≡ true) at holds in
+      grind (arith, nat_tests)
+
+  pub count_found : (found : Option ℕ) → found ≡ cond (ltb first_out (length (range_with_len 0 (length bs)))) (Some first_out) None → unwrap_or found (length bs) ≡ kept_count limit d bs
+  count_found found e =
+      let long = length-range_with_len 0 (length bs) in
+      let le : first_out ≤ length bs = omega (arith, prefix_len-le-length (λ n. not (passes n)) (range_with_len 0 (length bs))) in
+      let n : unwrap_or found (length bs) ≡ first_out = rw e (grind (arith, nat_tests)) in
+      n ∙ count_is limit d bs first_out le (within_before first_out (omega arith) le) passes_then
 
 -- the first bid left out is the next one of the roll
 pub next_out : (n : ℕ) (bs : List Bid) (b : Bid) (others : List Bid) → drop n bs ≡ b ∷ others → (n < length bs) × (take (suc n) bs ≡ take n bs ++ b ∷ [])

@@ -1,11 +1,9 @@
 -- The level at which the MW at the price are shared.
-use Rattle.std.proofs.Common.{◌≡◌, ℕ, ◌<◌, ◌≤◌, min, Bool, true, false, cond, leb, ◌⊎◌, List, [], ◌∷◌, refl, inl, inr, arith}
+use Rattle.std.proofs.Common.{◌≡◌, ℕ, ◌<◌, ◌≤◌, min, Bool, true, false, cond, leb, ◌⊎◌, List, [], ◌∷◌, Option, Some, None, refl, inl, inr, arith}
 use Rattle.std.proofs.lemmas.Bool.{cases_lt, leb-true, leb-false, le-leb}
 use Rattle.roll.specs.Sums.{sum_of}
 use Rattle.roll.proofs.Sums.{sum_mono}
 use Rattle.roll.proofs.Maxima.{largest_passes, beyond_fails, largest_le}
-use Rattle.auction.specs.declared.shares.Sharing.{Sharing}
-use Rattle.auction.specs.declared.shares.Sharing.TheVariants.{Whole, UpTo}
 use Rattle.auction.specs.Award.{total_shares, share_level, sharing_of, share, LargestLevel}
 
 abbrev fits : ℕ → List ℕ → ℕ → Bool
@@ -46,13 +44,13 @@ largest_level r ds = record {
 }
 
 -- nobody gets more than it asks for, and all together at most what remains
-pub share_le : (σ : Sharing) (d : ℕ) → share σ d ≤ d
-share_le Whole d = omega arith
-share_le (UpTo s) d = omega arith
+pub share_le : (σ : Option ℕ) (d : ℕ) → share σ d ≤ d
+share_le None d = omega arith
+share_le (Some s) d = omega arith
 
 pub shares_fit : (r : ℕ) (ds : List ℕ) → sum_of (share (sharing_of r ds)) ds ≤ r
 shares_fit r ds = go (leb (sum_of (λ d. d) ds) r) refl
   where
-    go : (b : Bool) → leb (sum_of (λ d. d) ds) r ≡ b → sum_of (share (cond b Whole (UpTo (share_level r ds)))) ds ≤ r
+    go : (b : Bool) → leb (sum_of (λ d. d) ds) r ≡ b → sum_of (share (cond b None (Some (share_level r ds)))) ds ≤ r
     go true e = leb-true _ _ e
     go false e = level_fits r ds

@@ -6,3 +6,4 @@ pub mod Settled
 pub mod Rivals
 pub mod Fronts
 pub mod Hand
+pub mod Chains

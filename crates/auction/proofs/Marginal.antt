@@ -1,9 +1,10 @@
 -- The marginal price: the kept bids reach the capacity at it, and not above it.
-use Rattle.std.proofs.Common.{◌≡◌, ℕ, suc, ◌<◌, ◌≤◌, Bool, true, false, cond, leb, ◌⊎◌, List, [], ◌∷◌, ◌++◌, length, get_or, take, sym, refl, ap, ◌∙◌, inl, inr, arith}
+use Rattle.std.proofs.Common.{◌≡◌, ℕ, suc, max, ◌<◌, ◌≤◌, Option, Bool, true, false, cond, leb, ◌⊎◌, List, [], ◌∷◌, map, filter, ◌++◌, length, get_or, sym, refl, ◌∙◌, inl, inr, arith}
 use Rattle.std.specs.List.{AllByRecursion}
-use Rattle.std.proofs.lemmas.List.{take_all}
 use Rattle.std.proofs.lemmas.Bool.Decides.{nat_tests}
 use Rattle.std.proofs.lemmas.Bool.{cases_lt, leb-true}
+use Rattle.std.specs.List.{flat_map, reduce}
+use Rattle.std.specs.Option.{option_map, unwrap_or}
 use Rattle.roll.specs.Sums.{sum_of, most_of}
 use Rattle.roll.proofs.Sums.{sum_append, sum_mono}
 use Rattle.roll.proofs.Maxima.{most_all, most_append, most_map, most_under}
@@ -12,6 +13,7 @@ use Rattle.auction.specs.declared.sheets.Sheet.{Sheet}
 use Rattle.auction.specs.Bids.{Lawful, mw_all, kept_of}
 use Rattle.auction.specs.Charge.{mw_from}
 use Rattle.auction.specs.Award.{kept_lists, total_mw, total_from, reaching_price, price_of, mw_above, Clears}
+use Rattle.auction.proofs.Chains.{most_flat, most_passing, largest_or_0}
 use Rattle.auction.proofs.Worst.{Priced, Next, next_price, priced_most, most_attained, Attained, from_all, from_zero}
 
 -- all kept bids in one list
@@ -92,13 +94,16 @@ above_price capacity kept = elim (cases_lt capacity (total_mw kept)) [
   | inr le ↦ omega (arith, sum_mono (mw_above (price_of capacity kept)) mw_all kept (from_all (suc (price_of capacity kept))))
 ]
 
--- the largest over all sheets, found by a loop, is the price
-pub price_found : (capacity : ℕ) (sheets : List Sheet) (found i : ℕ) → capacity < total_from 0 (kept_lists sheets) →
-    found ≡ most_of (λ s. most_of (reaching_price capacity (kept_lists sheets)) (kept_of s)) (take i sheets) → length sheets ≤ i → found ≡ price_of capacity (kept_lists sheets)
-price_found capacity sheets found i over e all =
-    e ∙ (ap (most_of (λ s. most_of (reaching_price capacity (kept_lists sheets)) (kept_of s))) (take_all i sheets all)
+-- the largest price of all sheets that reaches the capacity is the price of the auction
+pub price_found : (capacity : ℕ) (sheets : List Sheet) (found : Option ℕ) → capacity < total_from 0 (kept_lists sheets) →
+    option_map (λ q. q) found ≡ reduce max (filter (λ q. leb capacity (total_from q (kept_lists sheets))) (map (λ (b : Bid). b.price) (flat_map kept_of sheets))) → unwrap_or found 0 ≡ price_of capacity (kept_lists sheets)
+price_found capacity sheets found over e =
+    largest_or_0 found _ e
+    ∙ (most_passing (λ q. leb capacity (total_from q (kept_lists sheets))) (λ q. q) (map (λ (b : Bid). b.price) (flat_map kept_of sheets))
+    ∙ (most_map (if_reached capacity (kept_lists sheets)) (λ (b : Bid). b.price) (flat_map kept_of sheets)
+    ∙ (most_flat (reaching_price capacity (kept_lists sheets)) kept_of sheets
     ∙ (sym (most_map (λ bs. most_of (reaching_price capacity (kept_lists sheets)) bs) kept_of sheets)
-    ∙ sym (price_top capacity (kept_lists sheets) (omega (arith, total_zero (kept_lists sheets))))))
+    ∙ sym (price_top capacity (kept_lists sheets) (omega (arith, total_zero (kept_lists sheets))))))))
 
 -- the price is at most the highest of a lawful bid
 pub price_lawful : (capacity : ℕ) (kept : List (List Bid)) → ((i : ℕ) → i < length kept → AllByRecursion Lawful (get_or kept i [])) → price_of capacity kept ≤ 1000000

@@ -1,8 +1,7 @@
 -- A participant's demand around a price, as one record.
-use Rattle.std.specs.Prelude.{ℕ, ◌+◌, List}
+use Rattle.std.specs.Prelude.{ℕ, ◌+◌, List, Option}
 use Rattle.auction.specs.declared.bids.Bid.{Bid}
 use Rattle.auction.specs.declared.shares.Demand.{Demand}
-use Rattle.auction.specs.declared.shares.Sharing.{Sharing}
 use Rattle.auction.specs.Award.{mw_above, mw_at, share}
 
 abbrev pub demand_of : ℕ → List Bid → Demand
@@ -15,5 +14,5 @@ abbrev pub at_of : Demand → ℕ
 at_of d = d.at
 
 -- what a participant with this demand gets
-abbrev pub granted_mw : Sharing → Demand → ℕ
+abbrev pub granted_mw : Option ℕ → Demand → ℕ
 granted_mw σ d = d.above + share σ d.at

@@ -11,7 +11,8 @@ mod shares;
 mod sheets;
 
 pub use awards::{Outcome, award, worked_by_hand};
-pub use bids::{Bid, MOST_BIDS, PARTICIPANTS};
+pub use bids::{Bid, MOST_BIDS};
+pub use numbering::PARTICIPANTS;
 pub use prices::marginal_price;
 pub use products::Product;
 pub use sheets::{Sheet, seal_all};

@@ -1,19 +1,19 @@
 // A participant's bids in one auction, and what the seal made of them.
-ghost use Rattle.std.specs.Prelude.{◌≡◌, ◌≤◌, length, if◌then◌else◌};
+ghost use Rattle.std.specs.Prelude.{◌≡◌, ◌≤◌, length, if◌then◌else◌, is_ok};
 ghost use Rattle.roll.specs.Rolls.{Ordered};
 ghost use Rattle.auction.specs.Bids.{bids_of, kept_of, dearer, has_place, mw_all, with_bid, no_bids};
 ghost use Rattle.auction.specs.Charge.{worst_charge};
 ghost use Rattle.auction.specs.Seal.{sealed, all_sealed, LongestFront};
 ghost use Rattle.auction.specs.Rivals.{PaysAtMost, MadeToPay, RightlyLeftOut};
 
-use super::bids::{Bid, MOST_BIDS, PARTICIPANTS};
-use super::charges::{kept_count, mw_from, worst_charge};
+use super::bids::{Bid, Bids, MOST_BIDS};
 use super::products::Product;
-use roll::Roll;
+use numbering::PARTICIPANTS;
+use roll::{Full, Roll};
 
 // The first `count` places hold bids, in their order; the seal kept the first `kept` of these at the credit limit
-// that it found, and holds a sum for them.
-#[derive(Clone, Copy)]
+// that it found, and holds a sum for them. Places and a count, since no memory is taken from a heap here.
+#[derive(Clone, Copy, PartialEq, Eq, Debug)]
 pub struct Sheet {
     pub bids: [Bid; MOST_BIDS],
     pub count: usize,
@@ -36,19 +36,35 @@ impl Sheet {
         }
     }
 
-    // Puts a bid behind those level with it; false where four stand there already.
-    pub fn place(&mut self, bid: Bid) -> bool
-        ensures value { result ≡ has_place self.old }
-        ensures after { self.new ≡ (if result then with_bid bid self.old else self.old) }
+    // Puts a bid behind those level with it, unless four stand there already.
+    pub fn place(&mut self, bid: Bid) -> Result<(), Full>
+        ensures value { is_ok result ≡ has_place self.old }
+        ensures after { self.new ≡ (if is_ok result then with_bid bid self.old else self.old) }
         ensures order { Ordered dearer (bids_of self.old) → Ordered dearer (bids_of self.new) }
     {
         if self.count >= MOST_BIDS {
-            return false;
+            return Err(Full);
         }
         let mut roll = Roll::over(&mut self.bids, self.count);
-        let placed = roll.insert(bid);
+        roll.insert(bid)?;
         self.count = roll.len();
-        placed
+        Ok(())
+    }
+
+    // The bids that were placed, with their bound.
+    fn all(&self) -> Bids<'_>
+        ensures { result.list.now ≡ bids_of self.now }
+    {
+        Bids {
+            list: &self.bids[..self.count.min(MOST_BIDS)],
+        }
+    }
+
+    // The bids that take part in the award, with their bound.
+    pub(crate) fn front(&self) -> Bids<'_>
+        ensures { result.list.now ≡ kept_of self.now }
+    {
+        self.all().first(self.kept)
     }
 
     // The bids that were placed.
@@ -56,11 +72,7 @@ impl Sheet {
         ensures value { result.now ≡ bids_of self.now }
         ensures within { length result.now ≤ 4 }
     {
-        if self.count < MOST_BIDS {
-            &self.bids[0..self.count]
-        } else {
-            &self.bids
-        }
+        self.all().list
     }
 
     // The bids that take part in the award.
@@ -68,12 +80,7 @@ impl Sheet {
         ensures value { result.now ≡ kept_of self.now }
         ensures within { length result.now ≤ 4 }
     {
-        let placed = self.placed();
-        if self.kept < placed.len() {
-            &placed[0..self.kept]
-        } else {
-            placed
-        }
+        self.front().list
     }
 
     // The MW of all bids.
@@ -81,7 +88,7 @@ impl Sheet {
         ensures value { result ≡ mw_all (bids_of self.now) }
         ensures within { result ≤ 262140 }
     {
-        mw_from(self.placed(), 0)
+        self.all().mw_from(0)
     }
 
     // The most that the bids can cost, whatever the others bid.
@@ -90,7 +97,7 @@ impl Sheet {
         ensures enough { PaysAtMost product (bids_of self.now) result }
         ensures exact { MadeToPay product (bids_of self.now) result }
     {
-        worst_charge(self.placed(), product)
+        self.all().worst_charge(product)
     }
 
     // Keeps the longest front of the bids within the credit limit, and holds the worst charge of these.
@@ -101,8 +108,8 @@ impl Sheet {
         ensures exact { MadeToPay product (kept_of self.new) self.new.held }
         ensures rightly { RightlyLeftOut limit product (bids_of self.old) }
     {
-        self.kept = kept_count(self.placed(), product, limit);
-        self.held = worst_charge(self.kept_bids(), product);
+        self.kept = self.all().kept_count(product, limit);
+        self.held = self.front().worst_charge(product);
         self.limit = limit;
     }
 }
@@ -111,7 +118,7 @@ impl Sheet {
 pub fn seal_all(sheets: &mut [Sheet; PARTICIPANTS], product: Product, limits: &[u64; PARTICIPANTS])
     ensures { sheets.new ≡ all_sealed product limits.now sheets.old }
 {
-    for i in 0..PARTICIPANTS {
-        sheets[i].seal(product, limits[i]);
+    for (i, sheet) in sheets.iter_mut().enumerate() {
+        sheet.seal(product, limits[i]);
     }
 }

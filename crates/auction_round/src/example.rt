@@ -1,5 +1,6 @@
 // The round that is worked through: 121 MW from zone 1 to zone 2 over 24 hours, five bidders.
 use auction::{Bid, PARTICIPANTS, Product, Sheet};
+use roll::Full;
 
 pub(crate) const CAPACITY: u16 = 121;
 
@@ -11,27 +12,22 @@ pub(crate) const LIMITS: [u64; PARTICIPANTS] = [
     1_500_000, 600_000, 600_000, 50_000, 1_000_000, 0, 0, 0, 0, 0, 0, 0,
 ];
 
-// A sheet with two bids; the order of arrival does not matter where the prices differ.
-fn two_bids(first: Bid, second: Bid) -> Sheet {
+// A sheet with these bids; the order of arrival does not matter where the prices differ.
+fn sheet_of(bids: &[Bid]) -> Result<Sheet, Full> {
     let mut sheet = Sheet::empty();
-    sheet.place(first);
-    sheet.place(second);
-    sheet
-}
-
-fn one_bid(bid: Bid) -> Sheet {
-    let mut sheet = Sheet::empty();
-    sheet.place(bid);
-    sheet
+    for bid in bids {
+        sheet.place(*bid)?;
+    }
+    Ok(sheet)
 }
 
 // The bids: participants 1, 3 and 4 are level at 500, participant 5 bids too low to win.
-pub(crate) fn sheets() -> [Sheet; PARTICIPANTS] {
+pub(crate) fn sheets() -> Result<[Sheet; PARTICIPANTS], Full> {
     let mut sheets = [Sheet::empty(); PARTICIPANTS];
-    sheets[0] = two_bids(Bid { price: 500, mw: 40 }, Bid { price: 900, mw: 60 });
-    sheets[1] = two_bids(Bid { price: 700, mw: 30 }, Bid { price: 500, mw: 30 });
-    sheets[2] = one_bid(Bid { price: 500, mw: 50 });
-    sheets[3] = one_bid(Bid { price: 500, mw: 4 });
-    sheets[4] = one_bid(Bid { price: 300, mw: 80 });
-    sheets
+    sheets[0] = sheet_of(&[Bid { price: 500, mw: 40 }, Bid { price: 900, mw: 60 }])?;
+    sheets[1] = sheet_of(&[Bid { price: 700, mw: 30 }, Bid { price: 500, mw: 30 }])?;
+    sheets[2] = sheet_of(&[Bid { price: 500, mw: 50 }])?;
+    sheets[3] = sheet_of(&[Bid { price: 500, mw: 4 }])?;
+    sheets[4] = sheet_of(&[Bid { price: 300, mw: 80 }])?;
+    Ok(sheets)
 }

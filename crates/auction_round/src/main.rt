@@ -5,10 +5,11 @@
 mod example;
 mod table;
 
+use anyhow::anyhow;
 use auction::{award, seal_all};
 
 fn run(rt: &(impl Print + AllocGlobal)) -> anyhow::Result<()> {
-    let mut sheets = example::sheets();
+    let mut sheets = example::sheets().map_err(|_| anyhow!("no place for a bid"))?;
     seal_all(&mut sheets, example::PRODUCT, &example::LIMITS);
     let outcome = award(&sheets, example::CAPACITY);
     table::print(rt, &sheets, &outcome)

@@ -1,15 +1,16 @@
 // Auctions opened, bid in and sealed.
-ghost use Rattle.std.specs.Prelude.{◌≡◌};
+ghost use Rattle.std.specs.Prelude.{◌≡◌, true, false, IfOk, IfErr};
 ghost use Rattle.ledger.specs.Limits.{all_limits};
 ghost use Rattle.rules.specs.Calls.{award_auction, cancel_auction, open_auction, place_bid, seal_auction};
-ghost use Rattle.rules.specs.Moments.{seen};
-ghost use Rattle.rules.specs.Steps.{Step};
+ghost use Rattle.book.specs.Books.{moment};
+ghost use Rattle.rules.specs.declared.refusals.Refusal.TheVariants.{Zone};
+ghost use Rattle.rules.specs.Steps.{Step, bad_zones, direction_of};
 
 use super::books::Book;
-use auction::{Bid, MOST_BIDS, PARTICIPANTS, Product};
+use auction::{Bid, MOST_BIDS, Product};
 use collateral::kind::Collateral;
 use ledger::{Auction, Direction};
-use rights::{AUCTIONS, HOURS};
+use numbering::{AUCTIONS, HOURS, PARTICIPANTS, Participant};
 use rules::{Clearing, Cut, Receipt, Refusal};
 
 // The most MW of a bid, a transfer, a return or a capacity.
@@ -19,7 +20,18 @@ pub(crate) const MOST_MW: u16 = 5_000;
 const MOST_PRICE: u32 = 1_000_000;
 
 // Zones are numbered from 1 to 3.
-pub(crate) const ZONES: u8 = 3;
+const ZONES: u8 = 3;
+
+// The direction from one zone to another.
+pub(crate) fn direction(from: u8, to: u8) -> Result<Direction, Refusal>
+    ensures ok { IfOk result (λ d. (d ≡ direction_of from to) × (bad_zones from to ≡ false)) }
+    ensures err { IfErr result (λ e. (e ≡ Zone) × (bad_zones from to ≡ true)) }
+{
+    if from < 1 || from > ZONES || to < 1 || to > ZONES || from == to {
+        return Err(Refusal::Zone);
+    }
+    Ok(Direction { from, to })
+}
 
 impl<C: Collateral> Book<C> {
     // Opens an auction; answers its number.
@@ -31,11 +43,9 @@ impl<C: Collateral> Book<C> {
         hours: u8,
         capacity: u16,
     ) -> Result<u64, Refusal>
-        ensures { Step (open_auction from to first hours capacity) (seen self.old.ledger (C.cover self.old.collateral) (C.verdict self.old.collateral)) result (seen self.new.ledger (C.cover self.new.collateral) (C.verdict self.new.collateral)) }
+        ensures { Step (open_auction from to first hours capacity) (moment C.cover C.verdict self.old) result (moment C.cover C.verdict self.new) }
     {
-        if from < 1 || from > ZONES || to < 1 || to > ZONES || from == to {
-            return Err(Refusal::Zone);
-        }
+        let direction = direction(from, to)?;
         if hours < 1 || usize::from(first) + usize::from(hours) > HOURS {
             return Err(Refusal::Hours);
         }
@@ -45,30 +55,26 @@ impl<C: Collateral> Book<C> {
         if self.ledger.opened >= AUCTIONS {
             return Err(Refusal::Full);
         }
-        self.ledger.open(Auction::new(Direction { from, to }, first, Product { hours }, capacity));
+        self.ledger.open(Auction::new(direction, first, Product { hours }, capacity));
         Ok(self.ledger.opened as u64)
     }
 
     // Places a bid; answers its receipt, the worst charge of the participant's bids there, and its credit limit.
     pub fn bid(&mut self, p: u8, a: u8, price: u32, mw: u16) -> Result<Receipt, Refusal>
-        ensures { Step (place_bid p a price mw) (seen self.old.ledger (C.cover self.old.collateral) (C.verdict self.old.collateral)) result (seen self.new.ledger (C.cover self.new.collateral) (C.verdict self.new.collateral)) }
+        ensures { Step (place_bid p a price mw) (moment C.cover C.verdict self.old) result (moment C.cover C.verdict self.new) }
     {
-        if p < 1 || p > 12 {
-            return Err(Refusal::Participant);
-        }
-        if a < 1 || usize::from(a) > self.ledger.opened {
-            return Err(Refusal::Unopened);
-        }
+        let p = Participant::try_from(p)?;
+        let a = self.opened(a)?;
         if !self.ledger.is_open(a) {
             return Err(Refusal::Stage);
         }
         if mw < 1 || mw > MOST_MW || price > MOST_PRICE {
             return Err(Refusal::Amount);
         }
-        if self.ledger.auctions[a as usize - 1].sheets[p as usize - 1].count >= MOST_BIDS {
+        if self.ledger.sheet(p, a).count >= MOST_BIDS {
             return Err(Refusal::Full);
         }
-        let capacity = self.ledger.auctions[a as usize - 1].capacity;
+        let capacity = self.ledger.auction(a).capacity;
         if self.ledger.mw_bid(p, a) + u32::from(mw) > u32::from(capacity) {
             return Err(Refusal::Capacity);
         }
@@ -86,19 +92,19 @@ impl<C: Collateral> Book<C> {
         ensures { result ≡ all_limits self.now.ledger (C.cover self.now.collateral) }
     {
         let mut limits = [0; PARTICIPANTS];
-        for p in 0..12u8 {
-            limits[p as usize] = self.limit_of(p + 1);
+        for (place, limit) in limits.iter_mut().enumerate() {
+            *limit = self.limit_of(Participant {
+                number: place as u8 + 1,
+            });
         }
         limits
     }
 
     // Seals an auction: the limits of all twelve are found before any sum is held.
     pub fn seal(&mut self, a: u8) -> Result<Cut, Refusal>
-        ensures { Step (seal_auction a) (seen self.old.ledger (C.cover self.old.collateral) (C.verdict self.old.collateral)) result (seen self.new.ledger (C.cover self.new.collateral) (C.verdict self.new.collateral)) }
+        ensures { Step (seal_auction a) (moment C.cover C.verdict self.old) result (moment C.cover C.verdict self.new) }
     {
-        if a < 1 || usize::from(a) > self.ledger.opened {
-            return Err(Refusal::Unopened);
-        }
+        let a = self.opened(a)?;
         if !self.ledger.is_open(a) {
             return Err(Refusal::Stage);
         }
@@ -112,11 +118,9 @@ impl<C: Collateral> Book<C> {
 
     // Awards a sealed auction at the marginal price of what was kept; answers that price and the MW awarded.
     pub fn award(&mut self, a: u8) -> Result<Clearing, Refusal>
-        ensures { Step (award_auction a) (seen self.old.ledger (C.cover self.old.collateral) (C.verdict self.old.collateral)) result (seen self.new.ledger (C.cover self.new.collateral) (C.verdict self.new.collateral)) }
+        ensures { Step (award_auction a) (moment C.cover C.verdict self.old) result (moment C.cover C.verdict self.new) }
     {
-        if a < 1 || usize::from(a) > self.ledger.opened {
-            return Err(Refusal::Unopened);
-        }
+        let a = self.opened(a)?;
         if !self.ledger.is_sealed(a) {
             return Err(Refusal::Stage);
         }
@@ -129,11 +133,9 @@ impl<C: Collateral> Book<C> {
 
     // Cancels an open or sealed auction.
     pub fn cancel(&mut self, a: u8) -> Result<(), Refusal>
-        ensures { Step (cancel_auction a) (seen self.old.ledger (C.cover self.old.collateral) (C.verdict self.old.collateral)) result (seen self.new.ledger (C.cover self.new.collateral) (C.verdict self.new.collateral)) }
+        ensures { Step (cancel_auction a) (moment C.cover C.verdict self.old) result (moment C.cover C.verdict self.new) }
     {
-        if a < 1 || usize::from(a) > self.ledger.opened {
-            return Err(Refusal::Unopened);
-        }
+        let a = self.opened(a)?;
         if !self.ledger.is_pending(a) {
             return Err(Refusal::Stage);
         }

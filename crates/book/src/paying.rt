@@ -1,10 +1,12 @@
 // Invoices, payments and payouts, and moves of the day.
 ghost use Rattle.rules.specs.Calls.{move_day, pay_balance, pay_invoices, send_invoice};
-ghost use Rattle.rules.specs.Moments.{seen};
+ghost use Rattle.book.specs.Books.{moment};
 ghost use Rattle.rules.specs.Steps.{Step};
 
 use super::books::Book;
+use account::MOST_INVOICES;
 use collateral::kind::Collateral;
+use numbering::Participant;
 use rules::{Netting, Refusal};
 
 // The last day to which the book moves.
@@ -13,18 +15,13 @@ const LAST_DAY: u16 = 9_900;
 // The largest sum of a call, in cents.
 pub(crate) const MOST: u64 = 1_000_000_000_000;
 
-// The most invoices that a participant may have open.
-const MOST_INVOICES: usize = 4;
-
 impl<C: Collateral> Book<C> {
     // Nets a participant's dues against its claims.
     pub fn invoice(&mut self, p: u8) -> Result<Netting, Refusal>
-        ensures { Step (send_invoice p) (seen self.old.ledger (C.cover self.old.collateral) (C.verdict self.old.collateral)) result (seen self.new.ledger (C.cover self.new.collateral) (C.verdict self.new.collateral)) }
+        ensures { Step (send_invoice p) (moment C.cover C.verdict self.old) result (moment C.cover C.verdict self.new) }
     {
-        if p < 1 || p > 12 {
-            return Err(Refusal::Participant);
-        }
-        let account = self.ledger.accounts[p as usize - 1];
+        let p = Participant::try_from(p)?;
+        let account = self.ledger.account(p);
         if account.dues == 0 && account.claims == 0 {
             return Err(Refusal::Nothing);
         }
@@ -37,11 +34,9 @@ impl<C: Collateral> Book<C> {
 
     // Spends a payment along a participant's open invoices; answers what is open afterwards.
     pub fn payment(&mut self, p: u8, sum: u64) -> Result<u64, Refusal>
-        ensures { Step (pay_invoices p sum) (seen self.old.ledger (C.cover self.old.collateral) (C.verdict self.old.collateral)) result (seen self.new.ledger (C.cover self.new.collateral) (C.verdict self.new.collateral)) }
+        ensures { Step (pay_invoices p sum) (moment C.cover C.verdict self.old) result (moment C.cover C.verdict self.new) }
     {
-        if p < 1 || p > 12 {
-            return Err(Refusal::Participant);
-        }
+        let p = Participant::try_from(p)?;
         if sum < 1 || sum > MOST {
             return Err(Refusal::Amount);
         }
@@ -53,12 +48,10 @@ impl<C: Collateral> Book<C> {
 
     // Pays out a participant's whole balance.
     pub fn payout(&mut self, p: u8) -> Result<u64, Refusal>
-        ensures { Step (pay_balance p) (seen self.old.ledger (C.cover self.old.collateral) (C.verdict self.old.collateral)) result (seen self.new.ledger (C.cover self.new.collateral) (C.verdict self.new.collateral)) }
+        ensures { Step (pay_balance p) (moment C.cover C.verdict self.old) result (moment C.cover C.verdict self.new) }
     {
-        if p < 1 || p > 12 {
-            return Err(Refusal::Participant);
-        }
-        if self.ledger.accounts[p as usize - 1].payout == 0 {
+        let p = Participant::try_from(p)?;
+        if self.ledger.account(p).payout == 0 {
             return Err(Refusal::Nothing);
         }
         Ok(self.ledger.pay_out(p))
@@ -66,7 +59,7 @@ impl<C: Collateral> Book<C> {
 
     // Moves to today or a later day.
     pub fn day(&mut self, day: u16) -> Result<u16, Refusal>
-        ensures { Step (move_day day) (seen self.old.ledger (C.cover self.old.collateral) (C.verdict self.old.collateral)) result (seen self.new.ledger (C.cover self.new.collateral) (C.verdict self.new.collateral)) }
+        ensures { Step (move_day day) (moment C.cover C.verdict self.old) result (moment C.cover C.verdict self.new) }
     {
         if day < self.ledger.day || day > LAST_DAY {
             return Err(Refusal::Day);

@@ -2,8 +2,7 @@
 ghost use Rattle.std.specs.Prelude.{◌≡◌, ℕ, ◌≤◌, true};
 ghost use Rattle.collateral.specs.Cover.{in_range, participant};
 
-// Participants are numbered from 1 to 12.
-pub const PARTICIPANTS: usize = 12;
+pub use numbering::PARTICIPANTS;
 
 // The last day that can have cover.
 pub const LAST_DAY: u16 = 9_999;

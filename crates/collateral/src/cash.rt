@@ -4,7 +4,7 @@ ghost use Rattle.collateral.specs.Cash.{cash_added, cash_cover, cash_taken, cash
 ghost use Rattle.std.proofs.Common.{rules};
 
 use super::bounds::{LAST_DAY, MOST, PARTICIPANTS, is_in_range, is_participant};
-use super::kind::{Cause, Collateral};
+use super::kind::{Cause, Collateral, Short, nothing_there};
 
 const CASH: u8 = 1;
 
@@ -49,17 +49,17 @@ impl Collateral for Cash {
         wanted.min(self.balances[p as usize - 1])
     }
 
-    fn take(&mut self, p: u8, day: u16, sum: u64) -> bool {
+    fn take(&mut self, p: u8, day: u16, sum: u64) -> Result<(), Short> {
         if !is_in_range(p, day) {
-            return sum == 0;
+            return nothing_there(sum);
         }
         let i = p as usize - 1;
         let balance = self.balances[i];
         if sum > balance {
-            return false;
+            return Err(Short);
         }
         self.balances[i] = balance - sum;
-        true
+        Ok(())
     }
 
     fn add(&mut self, p: u8, kind: u8, sum: u64, last: u16, _today: u16) -> Result<(), Cause> {

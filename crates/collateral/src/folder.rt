@@ -1,14 +1,16 @@
 // The guarantees of one participant: a roll in four places, the one that runs out first in front.
-ghost use Rattle.std.specs.Prelude.{◌≡◌, ℕ, ◌-◌, ◌≤◌, min, length, take, if◌then◌else◌, nat_le};
+ghost use Rattle.std.specs.Prelude.{◌≡◌, ℕ, ◌-◌, ◌≤◌, min, length, take, if◌then◌else◌, nat_le, Ok, Err, is_ok};
+ghost use Rattle.collateral.specs.declared.kind.Cause.TheVariants.{NoPlace};
 ghost use Rattle.roll.specs.Rolls.{behind, laid};
 ghost use Rattle.roll.specs.Spending.{spent};
 ghost use Rattle.collateral.specs.Guarantees.{at_sum, earlier, filed, folder_cover, has_free, paid_from, past_on, sum_in, used_from};
 ghost use Rattle.std.proofs.Common.{rules};
 
 use super::bounds::PLACES;
-use roll::{Ranked, Roll, Spendable, left_over};
+use super::kind::{Cause, Short};
+use roll::{Ranked, Roll, Spendable, left_over, place_behind};
 
-// A sum that a bank stands in for, up to its last day.
+// A sum that a bank stands in for, up to its last day. (An invoice has a day and a sum too, of another meaning each.)
 #[derive(Clone, Copy)]
 pub struct Guarantee {
     pub last: u16,
@@ -50,6 +52,7 @@ impl Spendable for Guarantee {
     }
 }
 
+// The first `count` places, lent to a roll where it works on them, hold guarantees.
 #[derive(Clone, Copy)]
 pub struct Folder {
     pub(crate) places: [Guarantee; PLACES],
@@ -61,13 +64,7 @@ fn past_of(guarantees: &[Guarantee], day: u16) -> usize
     ensures value { result ≡ behind (past_on day) guarantees.now }
     ensures within { result ≤ length guarantees.now }
 {
-    let mut place = 0;
-    for (i, g) in guarantees.iter().enumerate() {
-        if g.last < day {
-            place = i + 1;
-        }
-    }
-    place
+    place_behind(guarantees, |g| g.last < day)
 }
 
 // Spends a sum along the first `n` guarantees: how many are left.
@@ -109,33 +106,33 @@ impl Folder {
     }
 
     // Pays a sum out of what is valid on the day, the one that runs out first in front.
-    pub fn take(&mut self, day: u16, sum: u64) -> bool
-        ensures value { result ≡ nat_le sum (folder_cover self.old day) }
-        ensures after { self.new ≡ (if result then paid_from day sum self.old else self.old) }
+    pub fn take(&mut self, day: u16, sum: u64) -> Result<(), Short>
+        ensures value { is_ok result ≡ nat_le sum (folder_cover self.old day) }
+        ensures after { self.new ≡ (if is_ok result then paid_from day sum self.old else self.old) }
     {
         let n = self.held();
         let gone = past_of(&self.places[0..n], day);
         if left_over(&self.places[gone..n], sum) > 0 {
-            return false;
+            return Err(Short);
         }
         self.count = spend_behind(&mut self.places, n, gone, sum);
-        true
+        Ok(())
     }
 
     // Puts a guarantee in its order, if a place is empty or past.
-    pub fn put(&mut self, today: u16, g: Guarantee) -> bool
-        ensures value { result ≡ has_free today self.old }
-        ensures after { self.new ≡ (if result then filed today g self.old else self.old) }
+    pub fn put(&mut self, today: u16, g: Guarantee) -> Result<(), Cause>
+        ensures value { result ≡ (if has_free today self.old then Ok tt else Err NoPlace) }
+        ensures after { self.new ≡ (if has_free today self.old then filed today g self.old else self.old) }
     {
         let n = self.held();
         let gone = past_of(&self.places[0..n], today);
         if n - gone >= PLACES {
-            return false;
+            return Err(Cause::NoPlace);
         }
         let mut roll = Roll::over(&mut self.places, n);
         roll.remove_front(gone);
-        let placed = roll.insert(g);
+        roll.insert(g).unwrap();
         self.count = roll.len();
-        placed
+        Ok(())
     }
 }

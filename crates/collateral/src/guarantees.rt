@@ -7,7 +7,7 @@ ghost use Rattle.collateral.specs.Covers.{cover_falls};
 
 use super::bounds::{LAST_DAY, MOST, PARTICIPANTS, PLACES, is_in_range, is_participant};
 use super::folder::{Folder, Guarantee};
-use super::kind::{Cause, Collateral};
+use super::kind::{Cause, Collateral, Short, nothing_there};
 
 const GUARANTEE: u8 = 2;
 
@@ -58,9 +58,9 @@ impl Collateral for Guarantees {
         self.folders[p as usize - 1].counted(day, wanted)
     }
 
-    fn take(&mut self, p: u8, day: u16, sum: u64) -> bool {
+    fn take(&mut self, p: u8, day: u16, sum: u64) -> Result<(), Short> {
         if !is_in_range(p, day) {
-            return sum == 0;
+            return nothing_there(sum);
         }
         self.folders[p as usize - 1].take(day, sum)
     }
@@ -78,9 +78,6 @@ impl Collateral for Guarantees {
         if last < today || last >= LAST_DAY {
             return Err(Cause::LastDay);
         }
-        if !self.folders[p as usize - 1].put(today, Guarantee { last, sum }) {
-            return Err(Cause::NoPlace);
-        }
-        Ok(())
+        self.folders[p as usize - 1].put(today, Guarantee { last, sum })
     }
 }

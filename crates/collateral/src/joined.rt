@@ -1,16 +1,33 @@
 // Two kinds joined, which are a kind again.
 ghost use Rattle.std.specs.Prelude.{◌≡◌, ℕ, ◌+◌, ◌||◌};
+ghost use Rattle.collateral.specs.Cash.{no_cash};
+ghost use Rattle.collateral.specs.Guarantees.{no_guarantees};
 ghost use Rattle.collateral.specs.Joined.{joined_added, joined_taken, joined_verdict};
 ghost use Rattle.std.proofs.Common.{arith, rules};
 
 use super::bounds::is_participant;
-use super::kind::{Cause, Collateral};
+use super::cash::Cash;
+use super::guarantees::Guarantees;
+use super::kind::{Cause, Collateral, Short};
 
 // A take empties the first kind before the second, an add goes to the first that knows its number.
 #[derive(Clone, Copy)]
 pub struct Joined<F, S> {
     pub first: F,
     pub second: S,
+}
+
+impl Joined<Cash, Guarantees> {
+    // Cash before guarantees, as an office holds them; none of either yet.
+    pub fn new() -> Joined<Cash, Guarantees>
+        ensures first { result.first ≡ no_cash }
+        ensures second { result.second ≡ no_guarantees }
+    {
+        Joined {
+            first: Cash::new(),
+            second: Guarantees::new(),
+        }
+    }
 }
 
 impl<F: Collateral, S: Collateral> Collateral for Joined<F, S> {
@@ -37,13 +54,13 @@ impl<F: Collateral, S: Collateral> Collateral for Joined<F, S> {
         first + self.second.counted(p, day, wanted - first)
     }
 
-    fn take(&mut self, p: u8, day: u16, sum: u64) -> bool {
+    fn take(&mut self, p: u8, day: u16, sum: u64) -> Result<(), Short> {
         let first = self.first.counted(p, day, sum);
         let rest = sum - first;
         if self.second.counted(p, day, rest) < rest {
-            return false;
+            return Err(Short);
         }
-        self.first.take(p, day, first);
+        self.first.take(p, day, first)?;
         self.second.take(p, day, rest)
     }
 

@@ -1,5 +1,5 @@
 // A kind of collateral, known by its cover alone.
-ghost use Rattle.std.specs.Prelude.{◌≡◌, ℕ, ◌≤◌, min, Bool, true, false, Result, nat_le};
+ghost use Rattle.std.specs.Prelude.{◌≡◌, ◌==◌, ℕ, ◌≤◌, min, Bool, true, false, Result, is_ok, nat_le};
 ghost use Rattle.collateral.specs.declared.kind.Cause.{Cause};
 ghost use Rattle.collateral.specs.Causes.{granted, number_of};
 ghost use Rattle.collateral.specs.Cover.{Added, Took, in_range};
@@ -7,25 +7,30 @@ ghost use Rattle.collateral.specs.Cover.{Added, Took, in_range};
 // Why an add is refused.
 #[derive(Clone, Copy, PartialEq, Eq, Debug)]
 pub enum Cause {
-    Stranger,
-    UnknownKind,
-    LastDay,
-    NoPlace,
-    BadSum,
+    Stranger = 30,
+    UnknownKind = 31,
+    LastDay = 32,
+    NoPlace = 33,
+    BadSum = 34,
 }
 
 impl Cause {
     pub fn number(&self) -> u8
         ensures { result ≡ number_of self.now }
     {
-        match self {
-            Cause::Stranger => 30,
-            Cause::UnknownKind => 31,
-            Cause::LastDay => 32,
-            Cause::NoPlace => 33,
-            Cause::BadSum => 34,
-        }
+        *self as u8
     }
+}
+
+// The day's cover does not reach the sum of a take.
+#[derive(Clone, Copy, PartialEq, Eq, Debug)]
+pub struct Short;
+
+// A take where there is no cover: of nothing it is granted.
+pub(crate) fn nothing_there(sum: u64) -> Result<(), Short>
+    ensures { is_ok result ≡ (sum == 0) }
+{
+    if sum == 0 { Ok(()) } else { Err(Short) }
 }
 
 // What stands behind a participant's debts: a sum for each participant and day.
@@ -45,6 +50,7 @@ pub trait Collateral {
     // What it is after an add (participant, kind, sum, last day, today).
     ghost added: { Self → ℕ → ℕ → ℕ → ℕ → ℕ → Self };
 
+    // Kinds go by number: an office may add one of its own, which an enum would rule out.
     fn knows(&self, kind: u8) -> bool
         ensures { result ≡ known kind };
 
@@ -53,11 +59,11 @@ pub trait Collateral {
         ensures { result ≡ min wanted (cover self.now p day) };
 
     // Pays a sum out of the day's cover, if it reaches.
-    fn take(&mut self, p: u8, day: u16, sum: u64) -> bool
-        ensures value { result ≡ nat_le sum (cover self.old p day) }
+    fn take(&mut self, p: u8, day: u16, sum: u64) -> Result<(), Short>
+        ensures value { is_ok result ≡ nat_le sum (cover self.old p day) }
         ensures after { self.new ≡ taken self.old p day sum }
-        ensures cover { result ≡ true → Took (cover self.old) (cover self.new) p day sum }
-        ensures refused { result ≡ false → self.new ≡ self.old };
+        ensures cover { is_ok result ≡ true → Took (cover self.old) (cover self.new) p day sum }
+        ensures refused { is_ok result ≡ false → self.new ≡ self.old };
 
     // Takes a sum in, which counts from today to its last day.
     fn add(&mut self, p: u8, kind: u8, sum: u64, last: u16, today: u16) -> Result<(), Cause>

@@ -1,5 +1,6 @@
 -- How a command is read off the bytes of the input.
-use Rattle.std.specs.Prelude.{ℕ, ◌+◌, ◌<◌, ◌≤◌, cond, List, [], ◌∷◌, length, drop, Some, None, Ok, Err, Option, Result, ◌==◌, nat_le, slice_index}
+use Rattle.std.specs.Prelude.{◌≡◌, ℕ, ◌+◌, ◌-◌, ◌<◌, ◌≤◌, cond, List, [], ◌∷◌, length, drop, Some, None, Ok, Err, Option, Result, ◌==◌, nat_le, slice_index}
+use Rattle.command.specs.declared.commands.Command.{Command}
 use Rattle.command.specs.declared.reader.Found.{Found}
 use Rattle.command.specs.declared.reader.Taken.{Taken}
 use Rattle.command.specs.declared.unreadable.Unreadable.{Unreadable}
@@ -12,9 +13,10 @@ pub record Read : Type 0 where
   pub meaning : Meaning
   pub bytes : ℕ
 
-abbrev pub taken_as : Result Taken Unreadable → Result Read Unreadable
-taken_as (Ok t) = Ok (record { meaning = meaning_of t.command; bytes = t.size })
-taken_as (Err e) = Err e
+-- what was taken off the front of these bytes
+abbrev pub taken_as : List ℕ → Result Taken Unreadable → Result Read Unreadable
+taken_as s (Ok t) = Ok (record { meaning = meaning_of t.command; bytes = length s - length t.rest.now })
+taken_as s (Err e) = Err e
 
 -- a letter and its operands, if the input has them whole
 abbrev pub whole : Row → List ℕ → Result Read Unreadable
@@ -22,6 +24,12 @@ whole r s =
     cond (nat_le (1 + total r.widths) (length s))
     (Ok (record { meaning = r.says (λ k. number_at s (begins r.widths 1 k) (slice_index r.widths k)) (λ k. part (begins r.widths 1 k) (slice_index r.widths k) s); bytes = 1 + total r.widths }))
     (Err CutShort)
+
+-- a command made of operands of these widths, if the input has them whole; `made n` is said of it, where `n k` is operand k
+abbrev pub TakenBy : List ℕ → ((ℕ → ℕ) → Command → Type 0) → List ℕ → Result Taken Unreadable → Type 0
+TakenBy ws made s (Ok t) =
+    (1 + total ws ≤ length s) × made (λ k. number_at s (begins ws 1 k) (slice_index ws k)) t.command × (length t.rest.now + (1 + total ws) ≡ length s)
+TakenBy ws made s (Err e) = (length s < 1 + total ws) × (e ≡ CutShort)
 
 abbrev pub by_rows : List Row → ℕ → List ℕ → Result Read Unreadable
 by_rows [] l s = Err UnknownLetter

@@ -1,7 +1,10 @@
 // The fifteen commands and their operands.
 ghost use Rattle.std.specs.Prelude.{◌≡◌};
 ghost use Rattle.command.specs.Meaning.{limit_named, meaning_of};
+ghost use Rattle.command.specs.Letters.{byte_of};
 ghost use Rattle.command.specs.Table.{letter_of};
+
+use crate::letter::Letter;
 
 // A curtailment has a limit of two bytes for each of 24 hours.
 pub const HOURS_CUT: usize = 24;
@@ -11,7 +14,7 @@ pub const LIMIT_BYTES: usize = 48;
 pub const LONGEST_COMMAND: usize = 52;
 
 // Money is in euro cents, a price in cents per MW and hour, power in MW.
-#[derive(Clone, Copy)]
+#[derive(Clone, Copy, PartialEq, Eq, Debug)]
 pub enum Command<'a> {
     Add {
         participant: u8,
@@ -86,25 +89,25 @@ pub enum Command<'a> {
 
 impl Command<'_> {
     // The letter that the command begins with, and that its line shows.
-    pub fn letter(self) -> u8
-        ensures { result ≡ letter_of (meaning_of self.entry) }
+    pub fn letter(self) -> Letter
+        ensures { byte_of result ≡ letter_of (meaning_of self.entry) }
     {
         match self {
-            Command::Add { .. } => b'D',
-            Command::Withdraw { .. } => b'W',
-            Command::Open { .. } => b'O',
-            Command::Bid { .. } => b'B',
-            Command::Seal { .. } => b'S',
-            Command::Award { .. } => b'A',
-            Command::Cancel { .. } => b'X',
-            Command::Transfer { .. } => b'T',
-            Command::Return { .. } => b'R',
-            Command::Curtail { .. } => b'C',
-            Command::Invoice { .. } => b'I',
-            Command::Payment { .. } => b'M',
-            Command::Draw { .. } => b'K',
-            Command::Payout { .. } => b'Q',
-            Command::Day { .. } => b'N',
+            Command::Add { .. } => Letter::Add,
+            Command::Withdraw { .. } => Letter::Withdraw,
+            Command::Open { .. } => Letter::Open,
+            Command::Bid { .. } => Letter::Bid,
+            Command::Seal { .. } => Letter::Seal,
+            Command::Award { .. } => Letter::Award,
+            Command::Cancel { .. } => Letter::Cancel,
+            Command::Transfer { .. } => Letter::Transfer,
+            Command::Return { .. } => Letter::Return,
+            Command::Curtail { .. } => Letter::Curtail,
+            Command::Invoice { .. } => Letter::Invoice,
+            Command::Payment { .. } => Letter::Payment,
+            Command::Draw { .. } => Letter::Draw,
+            Command::Payout { .. } => Letter::Payout,
+            Command::Day { .. } => Letter::Day,
         }
     }
 }

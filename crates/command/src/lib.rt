@@ -3,9 +3,11 @@
 #![tactic(auto)]
 
 mod commands;
+mod letter;
 mod reader;
 mod unreadable;
 
 pub use commands::{Command, HOURS_CUT, LIMIT_BYTES, LONGEST_COMMAND, limit};
+pub use letter::Letter;
 pub use reader::{Found, read};
 pub use unreadable::Unreadable;

@@ -1,13 +1,15 @@
 // Reads one command off the bytes of the input: a letter, and the operands that it names.
-ghost use Rattle.std.specs.Prelude.{◌≡◌, ◌<◌, ◌≤◌, length, MatchOption};
-ghost use Rattle.command.specs.Reading.{Onward, by_letter, reading, taken_as, understood};
-ghost use Rattle.command.specs.Table.{byte, part};
+ghost use Rattle.std.specs.Prelude.{◌≡◌, ◌<◌, ◌≤◌, length, [], ◌∷◌, Some};
+ghost use Rattle.command.specs.Letters.{byte_of};
+ghost use Rattle.command.specs.Reading.{Onward, TakenBy, by_letter, reading, taken_as, understood};
+ghost use Rattle.command.specs.Table.{byte};
 
-use crate::commands::{Command, LIMIT_BYTES, LONGEST_COMMAND};
+use crate::commands::{Command, LIMIT_BYTES};
+use crate::letter::Letter;
 use crate::unreadable::Unreadable;
 
 // A command and the place behind it in the input.
-#[derive(Clone, Copy)]
+#[derive(Clone, Copy, PartialEq, Eq, Debug)]
 pub struct Found<'a> {
     pub command: Command<'a>,
     pub next: usize,
@@ -21,48 +23,92 @@ pub fn read<'a>(input: &'a [u8], place: usize) -> Option<Result<Found<'a>, Unrea
     if place >= input.len() {
         return None;
     }
-    match by_letter(input[place], &input[place..]) {
-        Ok(taken) => Some(Ok(Found {
-            command: taken.command,
-            next: place + taken.size,
-        })),
-        Err(refusal) => Some(Err(refusal)),
-    }
+    Some(read_within(input, place))
 }
 
-// A command and the number of bytes that it takes.
+// The command at a place within the input.
+fn read_within<'a>(input: &'a [u8], place: usize) -> Result<Found<'a>, Unreadable>
+    requires { place < length input.now }
+    ensures { understood (Some result) ≡ reading input.now place }
+{
+    let letter = Letter::try_from(input[place])?;
+    let taken = by_letter(letter, &input[place..])?;
+    Ok(Found {
+        command: taken.command,
+        next: input.len() - taken.rest.len(),
+    })
+}
+
+// A command, and what stands behind it.
 #[derive(Clone, Copy)]
 struct Taken<'a> {
     command: Command<'a>,
-    size: usize,
+    rest: &'a [u8],
 }
 
-// Reads the operands that stand behind this letter.
-fn by_letter<'a>(letter: u8, input: &'a [u8]) -> Result<Taken<'a>, Unreadable>
-    ensures { taken_as result ≡ by_letter letter input.now }
+// Reads the operands that stand behind this letter, which is the first byte.
+fn by_letter<'a>(letter: Letter, input: &'a [u8]) -> Result<Taken<'a>, Unreadable>
+    ensures { taken_as input.now result ≡ by_letter (byte_of letter) input.now }
 {
     match letter {
-        b'D' => add(input),
-        b'W' => withdraw(input),
-        b'O' => open(input),
-        b'B' => bid(input),
-        b'S' => seal(input),
-        b'A' => award(input),
-        b'X' => cancel(input),
-        b'T' => transfer(input),
-        b'R' => give_back(input),
-        b'C' => curtail(input),
-        b'I' => invoice(input),
-        b'M' => payment(input),
-        b'K' => draw(input),
-        b'Q' => payout(input),
-        b'N' => day(input),
-        _ => Err(Unreadable::UnknownLetter),
+        Letter::Add => add(input),
+        Letter::Withdraw => of_sum(
+            input,
+            |participant, sum| Command::Withdraw { participant, sum },
+        ),
+        Letter::Open => open(input),
+        Letter::Bid => bid(input),
+        Letter::Seal => of_one_byte(input, |auction| Command::Seal { auction }),
+        Letter::Award => of_one_byte(input, |auction| Command::Award { auction }),
+        Letter::Cancel => of_one_byte(input, |auction| Command::Cancel { auction }),
+        Letter::Transfer => transfer(input),
+        Letter::Return => give_back(input),
+        Letter::Curtail => curtail(input),
+        Letter::Invoice => of_one_byte(input, |participant| Command::Invoice { participant }),
+        Letter::Payment => of_sum(
+            input,
+            |participant, sum| Command::Payment { participant, sum },
+        ),
+        Letter::Draw => of_one_byte(input, |participant| Command::Draw { participant }),
+        Letter::Payout => of_one_byte(input, |participant| Command::Payout { participant }),
+        Letter::Day => day(input),
     }
 }
 
+// A command whose only operand is one byte, an auction or a participant.
+fn of_one_byte<'a, F: FnOnce(u8) -> Command<'a>>(
+    input: &'a [u8],
+    command: F,
+) -> Result<Taken<'a>, Unreadable>
+    requires { F.IsAlwaysCallable command }
+    ensures { TakenBy (1 ∷ []) (λ n. F.post command (n 0)) input.now result }
+{
+    let [_, operand, rest @ ..] = input else {
+        return Err(Unreadable::CutShort);
+    };
+    let command = command(*operand);
+    Ok(Taken { command, rest })
+}
+
+// A command whose operands are a participant and a sum.
+fn of_sum<'a, F: FnOnce(u8, u64) -> Command<'a>>(
+    input: &'a [u8],
+    command: F,
+) -> Result<Taken<'a>, Unreadable>
+    requires { F.IsAlwaysCallable command }
+    ensures { TakenBy (1 ∷ 8 ∷ []) (λ n. F.post command (n 0) (n 1)) input.now result }
+{
+    let [_, participant, s0, s1, s2, s3, s4, s5, s6, s7, rest @ ..] = input else {
+        return Err(Unreadable::CutShort);
+    };
+    let sum = u64::from_be_bytes([*s0, *s1, *s2, *s3, *s4, *s5, *s6, *s7]);
+    let command = command(*participant, sum);
+    Ok(Taken { command, rest })
+}
+
+// A participant brings collateral.
 fn add<'a>(input: &'a [u8]) -> Result<Taken<'a>, Unreadable>
-    ensures { taken_as result ≡ by_letter (byte "D") input.now }
+    ensures { taken_as input.now result ≡ by_letter (byte "D") input.now }
 {
     let [
         _,
@@ -89,30 +135,12 @@ fn add<'a>(input: &'a [u8]) -> Result<Taken<'a>, Unreadable>
         sum: u64::from_be_bytes([*s0, *s1, *s2, *s3, *s4, *s5, *s6, *s7]),
         last_day: u16::from_be_bytes([*l0, *l1]),
     };
-    Ok(Taken {
-        command,
-        size: input.len() - rest.len(),
-    })
+    Ok(Taken { command, rest })
 }
 
-fn withdraw<'a>(input: &'a [u8]) -> Result<Taken<'a>, Unreadable>
-    ensures { taken_as result ≡ by_letter (byte "W") input.now }
-{
-    let [_, participant, s0, s1, s2, s3, s4, s5, s6, s7, rest @ ..] = input else {
-        return Err(Unreadable::CutShort);
-    };
-    let command = Command::Withdraw {
-        participant: *participant,
-        sum: u64::from_be_bytes([*s0, *s1, *s2, *s3, *s4, *s5, *s6, *s7]),
-    };
-    Ok(Taken {
-        command,
-        size: input.len() - rest.len(),
-    })
-}
-
+// An auction opens between two zones, for hours and a capacity.
 fn open<'a>(input: &'a [u8]) -> Result<Taken<'a>, Unreadable>
-    ensures { taken_as result ≡ by_letter (byte "O") input.now }
+    ensures { taken_as input.now result ≡ by_letter (byte "O") input.now }
 {
     let [_, from, to, first_hour, hours, c0, c1, rest @ ..] = input else {
         return Err(Unreadable::CutShort);
@@ -124,14 +152,12 @@ fn open<'a>(input: &'a [u8]) -> Result<Taken<'a>, Unreadable>
         hours: *hours,
         capacity: u16::from_be_bytes([*c0, *c1]),
     };
-    Ok(Taken {
-        command,
-        size: input.len() - rest.len(),
-    })
+    Ok(Taken { command, rest })
 }
 
+// A participant bids a price for power in an auction.
 fn bid<'a>(input: &'a [u8]) -> Result<Taken<'a>, Unreadable>
-    ensures { taken_as result ≡ by_letter (byte "B") input.now }
+    ensures { taken_as input.now result ≡ by_letter (byte "B") input.now }
 {
     let [_, participant, auction, p0, p1, p2, p3, m0, m1, rest @ ..] = input else {
         return Err(Unreadable::CutShort);
@@ -142,53 +168,12 @@ fn bid<'a>(input: &'a [u8]) -> Result<Taken<'a>, Unreadable>
         price: u32::from_be_bytes([*p0, *p1, *p2, *p3]),
         mw: u16::from_be_bytes([*m0, *m1]),
     };
-    Ok(Taken {
-        command,
-        size: input.len() - rest.len(),
-    })
+    Ok(Taken { command, rest })
 }
 
-fn seal<'a>(input: &'a [u8]) -> Result<Taken<'a>, Unreadable>
-    ensures { taken_as result ≡ by_letter (byte "S") input.now }
-{
-    let [_, auction, rest @ ..] = input else {
-        return Err(Unreadable::CutShort);
-    };
-    let command = Command::Seal { auction: *auction };
-    Ok(Taken {
-        command,
-        size: input.len() - rest.len(),
-    })
-}
-
-fn award<'a>(input: &'a [u8]) -> Result<Taken<'a>, Unreadable>
-    ensures { taken_as result ≡ by_letter (byte "A") input.now }
-{
-    let [_, auction, rest @ ..] = input else {
-        return Err(Unreadable::CutShort);
-    };
-    let command = Command::Award { auction: *auction };
-    Ok(Taken {
-        command,
-        size: input.len() - rest.len(),
-    })
-}
-
-fn cancel<'a>(input: &'a [u8]) -> Result<Taken<'a>, Unreadable>
-    ensures { taken_as result ≡ by_letter (byte "X") input.now }
-{
-    let [_, auction, rest @ ..] = input else {
-        return Err(Unreadable::CutShort);
-    };
-    let command = Command::Cancel { auction: *auction };
-    Ok(Taken {
-        command,
-        size: input.len() - rest.len(),
-    })
-}
-
+// A participant hands rights of an auction on to another.
 fn transfer<'a>(input: &'a [u8]) -> Result<Taken<'a>, Unreadable>
-    ensures { taken_as result ≡ by_letter (byte "T") input.now }
+    ensures { taken_as input.now result ≡ by_letter (byte "T") input.now }
 {
     let [
         _,
@@ -212,14 +197,12 @@ fn transfer<'a>(input: &'a [u8]) -> Result<Taken<'a>, Unreadable>
         hours: *hours,
         mw: u16::from_be_bytes([*m0, *m1]),
     };
-    Ok(Taken {
-        command,
-        size: input.len() - rest.len(),
-    })
+    Ok(Taken { command, rest })
 }
 
+// A participant gives rights of one auction back into another.
 fn give_back<'a>(input: &'a [u8]) -> Result<Taken<'a>, Unreadable>
-    ensures { taken_as result ≡ by_letter (byte "R") input.now }
+    ensures { taken_as input.now result ≡ by_letter (byte "R") input.now }
 {
     let [_, participant, out_of, into, m0, m1, rest @ ..] = input else {
         return Err(Unreadable::CutShort);
@@ -230,29 +213,30 @@ fn give_back<'a>(input: &'a [u8]) -> Result<Taken<'a>, Unreadable>
         into: *into,
         mw: u16::from_be_bytes([*m0, *m1]),
     };
-    Ok(Taken {
-        command,
-        size: input.len() - rest.len(),
-    })
+    Ok(Taken { command, rest })
 }
 
-// The 48 bytes behind the letter and three operands.
-fn limits<'a>(input: &'a [u8]) -> Option<&'a [u8; LIMIT_BYTES]>
-    ensures { MatchOption result (length input.now < 52) (λ x. (52 ≤ length input.now) × (x.now ≡ part 4 48 input.now)) }
+// The day moves on.
+fn day<'a>(input: &'a [u8]) -> Result<Taken<'a>, Unreadable>
+    ensures { taken_as input.now result ≡ by_letter (byte "N") input.now }
 {
-    if input.len() < 4 {
-        return None;
-    }
-    input[4..].first_chunk::<LIMIT_BYTES>()
-}
-
-fn curtail<'a>(input: &'a [u8]) -> Result<Taken<'a>, Unreadable>
-    ensures { taken_as result ≡ by_letter (byte "C") input.now }
-{
-    let [_, from, to, first_hour, ..] = input else {
+    let [_, d0, d1, rest @ ..] = input else {
         return Err(Unreadable::CutShort);
     };
-    let Some(limits) = limits(input) else {
+    let command = Command::Day {
+        day: u16::from_be_bytes([*d0, *d1]),
+    };
+    Ok(Taken { command, rest })
+}
+
+// The limits stay a part of the input.
+fn curtail<'a>(input: &'a [u8]) -> Result<Taken<'a>, Unreadable>
+    ensures { taken_as input.now result ≡ by_letter (byte "C") input.now }
+{
+    let [_, from, to, first_hour, behind @ ..] = input else {
+        return Err(Unreadable::CutShort);
+    };
+    let Some((limits, rest)) = behind.split_first_chunk::<LIMIT_BYTES>() else {
         return Err(Unreadable::CutShort);
     };
     let command = Command::Curtail {
@@ -261,84 +245,5 @@ fn curtail<'a>(input: &'a [u8]) -> Result<Taken<'a>, Unreadable>
         first_hour: *first_hour,
         limits,
     };
-    Ok(Taken {
-        command,
-        size: LONGEST_COMMAND,
-    })
-}
-
-fn invoice<'a>(input: &'a [u8]) -> Result<Taken<'a>, Unreadable>
-    ensures { taken_as result ≡ by_letter (byte "I") input.now }
-{
-    let [_, participant, rest @ ..] = input else {
-        return Err(Unreadable::CutShort);
-    };
-    let command = Command::Invoice {
-        participant: *participant,
-    };
-    Ok(Taken {
-        command,
-        size: input.len() - rest.len(),
-    })
-}
-
-fn payment<'a>(input: &'a [u8]) -> Result<Taken<'a>, Unreadable>
-    ensures { taken_as result ≡ by_letter (byte "M") input.now }
-{
-    let [_, participant, s0, s1, s2, s3, s4, s5, s6, s7, rest @ ..] = input else {
-        return Err(Unreadable::CutShort);
-    };
-    let command = Command::Payment {
-        participant: *participant,
-        sum: u64::from_be_bytes([*s0, *s1, *s2, *s3, *s4, *s5, *s6, *s7]),
-    };
-    Ok(Taken {
-        command,
-        size: input.len() - rest.len(),
-    })
-}
-
-fn draw<'a>(input: &'a [u8]) -> Result<Taken<'a>, Unreadable>
-    ensures { taken_as result ≡ by_letter (byte "K") input.now }
-{
-    let [_, participant, rest @ ..] = input else {
-        return Err(Unreadable::CutShort);
-    };
-    let command = Command::Draw {
-        participant: *participant,
-    };
-    Ok(Taken {
-        command,
-        size: input.len() - rest.len(),
-    })
-}
-
-fn payout<'a>(input: &'a [u8]) -> Result<Taken<'a>, Unreadable>
-    ensures { taken_as result ≡ by_letter (byte "Q") input.now }
-{
-    let [_, participant, rest @ ..] = input else {
-        return Err(Unreadable::CutShort);
-    };
-    let command = Command::Payout {
-        participant: *participant,
-    };
-    Ok(Taken {
-        command,
-        size: input.len() - rest.len(),
-    })
-}
-
-fn day<'a>(input: &'a [u8]) -> Result<Taken<'a>, Unreadable>
-    ensures { taken_as result ≡ by_letter (byte "N") input.now }
-{
-    let [_, d0, d1, rest @ ..] = input else {
-        return Err(Unreadable::CutShort);
-    };
-    let command = Command::Day {
-        day: u16::from_be_bytes([*d0, *d1]),
-    };
-    Ok(Taken {
-        command,
-        size: input.len() - rest.len(),
-    })
+    Ok(Taken { command, rest })
 }

@@ -2,23 +2,19 @@
 ghost use Rattle.std.specs.Prelude.{◌≡◌};
 ghost use Rattle.command.specs.Unreadable.{number_of};
 
-#[derive(Clone, Copy)]
+#[derive(Clone, Copy, PartialEq, Eq, Debug)]
 pub enum Unreadable {
-    UnknownLetter,
-    CutShort,
-    LongFile,
-    PageEnd,
+    UnknownLetter = 41,
+    CutShort = 42,
+    LongFile = 43,
+    PageEnd = 44,
 }
 
 impl Unreadable {
+    // The number that a line shows of it.
     pub fn number(self) -> u8
         ensures { result ≡ number_of self }
     {
-        match self {
-            Unreadable::UnknownLetter => 41,
-            Unreadable::CutShort => 42,
-            Unreadable::LongFile => 43,
-            Unreadable::PageEnd => 44,
-        }
+        self as u8
     }
 }

@@ -32,12 +32,9 @@ fn each_cut(rt: HostRuntime) {
 // The letters are 15 of the 256 bytes.
 #[test]
 fn unknown_letters(rt: HostRuntime) {
-    let mut unknown = 0u64;
-    for b in 0..=255u8 {
-        if matches!(read(&[b, b], 0), Some(Err(Unreadable::UnknownLetter))) {
-            unknown = unknown.wrapping_add(1);
-        }
-    }
+    let unknown = (0..=255u8)
+        .filter(|b| matches!(read(&[*b, *b], 0), Some(Err(Unreadable::UnknownLetter))))
+        .count();
     assert_eq!(rt; unknown, 241);
     assert!(rt; matches!(read(b"d\x01", 0), Some(Err(Unreadable::UnknownLetter))));
 }

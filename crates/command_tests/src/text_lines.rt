@@ -5,8 +5,8 @@ use std::test::Fail;
 
 fn says(rt: &impl Abort, text: &[u8], bytes: &[u8]) -> Result<(), Fail> {
     match encode_line(text) {
-        Ok(packet) => {
-            assert!(rt; &packet.bytes[0..packet.size] == bytes);
+        Ok(command) => {
+            assert!(rt; command.as_slice() == bytes);
             Ok(())
         },
         Err(expected) => Err(Fail::new(expected.text())),
@@ -17,6 +17,7 @@ fn wants(rt: &impl Abort, text: &[u8], expected: Expected) -> Result<(), Fail> {
     match encode_line(text) {
         Ok(_) => Err(Fail::new("read")),
         Err(found) => {
+            assert_eq!(rt; found, expected);
             assert!(rt; found.text() == expected.text());
             Ok(())
         },

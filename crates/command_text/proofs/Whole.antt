@@ -1,14 +1,13 @@
 -- What a line is written as, the reader reads as one whole command.
-use Rattle.std.proofs.Common.{◌≡◌, ℕ, ◌+◌, ◌≤◌, Bool, true, false, cond, eqb, leb, List, [], ◌∷◌, ◌++◌, length, replicate, Some, None, Ok, Err, Option, Result, sym, refl, ap, ◌∙◌, subst, arith, length-append, eqb-true, le-leb}
+use Rattle.std.proofs.Common.{◌≡◌, ℕ, ◌+◌, ◌≤◌, Bool, true, false, cond, eqb, List, [], ◌∷◌, ◌++◌, length, replicate, Some, None, Ok, Option, Result, sym, refl, ap, ◌∙◌, subst, arith, length-append, eqb-true, le-leb}
 use Rattle.command.specs.declared.unreadable.Unreadable.{Unreadable}
-use Rattle.command.specs.declared.unreadable.Unreadable.TheVariants.{CutShort}
+use Rattle.std.proofs.lemmas.Bool.{cond-true, cond_both}
 use Rattle.command.specs.Meaning.{Meaning}
 use Rattle.command.specs.Table.{Row, table, total}
 use Rattle.command.specs.Reading.{Read, by_letter, by_rows, whole}
 use Rattle.encoder.specs.Encoding.{big_endian}
 use Rattle.encoder.proofs.Back.{length_big_endian, placed}
 use Rattle.command_text.specs.Words.{past_blanks, past_digits, value_on}
-use Rattle.command_text.specs.declared.line.Expected.{Expected}
 use Rattle.command_text.specs.Lines.{OneCommand, behind, by_operands, by_widths, ends, from_word, in_text, line_bytes, operand_bytes, said, said_in}
 
 abbrev Got : ℕ → Result Read Unreadable → Type 0
@@ -19,23 +18,15 @@ total_append [] ws = omega arith
 total_append (u ∷ us) ws = let k = total_append us ws in omega arith
 
 -- the limits are as wide one by one as together
-expanded : (w : ℕ) (b : Bool) → (b ≡ true → w ≡ 48) → total (cond b (replicate 24 2) (w ∷ [])) ≡ w
-expanded w true h = sym (h refl)
-expanded w false h = omega arith
-
 total_in_text : (ws : List ℕ) → total (in_text ws) ≡ total ws
 total_in_text [] = refl
 total_in_text (w ∷ ws) =
-    let here = expanded w (eqb w 48) (eqb-true w 48) in
+    let here : total (cond (eqb w 48) (replicate 24 2) (w ∷ [])) ≡ w = cond_both (eqb w 48) _ _ (λ t. total t ≡ w) (λ e. sym (eqb-true w 48 e)) (λ _. omega arith) in
     let rest = total_in_text ws in
     total_append (cond (eqb w 48) (replicate 24 2) (w ∷ [])) (in_text ws) ∙ omega arith
 
-got_if : (b : Bool) (m : Meaning) (n : ℕ) → b ≡ true → Got n (cond b (Ok (record { meaning = m; bytes = n })) (Err CutShort))
-got_if true m n e = (m, refl)
-got_if false m n e = let none : ◌≡◌ {A = ℕ} 0 1 = cc in absurd (omega arith)
-
 got_whole : (r : Row) (s : List ℕ) (n : ℕ) → n ≡ 1 + total r.widths → n ≤ length s → Got n (whole r s)
-got_whole r s n e h = subst (λ k. Got k (whole r s)) (sym e) (got_if (leb (1 + total r.widths) (length s)) _ _ (le-leb (1 + total r.widths) (length s) (omega arith)))
+got_whole r s n e h = subst (λ k. Got k (whole r s)) (sym e) (_, cond-true _ _ _ (le-leb (1 + total r.widths) (length s) (omega arith)))
 
 got_row : (b : Bool) (r : Row) (o : Option (List ℕ)) (x : Result Read Unreadable) (s ws : List ℕ) → cond b (Some (in_text r.widths)) o ≡ Some ws → 1 + total ws ≤ length s → (o ≡ Some ws → Got (1 + total ws) x) → Got (1 + total ws) (cond b (whole r s) x)
 got_row true r o x s ws e h k =
@@ -62,7 +53,7 @@ if_some true o t e = e
 if_some false o t e = let none : ◌≡◌ {A = ℕ} 0 1 = cc in absurd (omega arith)
 
 -- the operands take as many bytes as their widths say
-length_operands : (ws text t : List ℕ) → operand_bytes ws text ≡ Some t → length t ≡ total ws
+pub length_operands : (ws text t : List ℕ) → operand_bytes ws text ≡ Some t → length t ≡ total ws
 length_operands [] text t e = let same = if_some (ends (past_blanks text)) (Some []) t e in let nil : [] ≡ t = cc in sym (ap length nil)
 length_operands (w ∷ ws) text t e =
     let s = past_blanks text in
@@ -82,13 +73,9 @@ widths_command : (l : ℕ) (text : List ℕ) (o : Option (List ℕ)) → said l 
 widths_command l text None e = tt
 widths_command l text (Some ws) e = operands_command l ws (operand_bytes ws text) e (λ t k. length_operands ws text t k)
 
-command_if : (b : Bool) (x : Result (List ℕ) Expected) → OneCommand x → OneCommand (cond b (Ok []) x)
-command_if true x k = tt
-command_if false x k = k
-
 word_command : (s : List ℕ) → OneCommand (from_word s)
 word_command [] = tt
-word_command (l ∷ text) = command_if (eqb l 35) (by_widths l text (said l)) (widths_command l text (said l) refl)
+word_command (l ∷ text) = cond_both (eqb l 35) _ _ OneCommand (λ _. tt) (λ _. widths_command l text (said l) refl)
 
 pub one_command : (text : List ℕ) → OneCommand (line_bytes text)
 one_command text = word_command (past_blanks text)

@@ -1,14 +1,13 @@
 -- A line of text: a letter of the table, and a number for each of its operands.
-use Rattle.std.specs.Prelude.{◌≡◌, ℕ, ◌+◌, ◌^◌, ◌<◌, ◌≤◌, Bool, true, cond, ◌&&◌, List, [], ◌∷◌, ◌++◌, length, take, replicate, Some, None, Ok, Err, Option, Result, ◌==◌, nat_lt}
+use Rattle.std.specs.Prelude.{◌≡◌, ℕ, ◌+◌, ◌^◌, ◌<◌, Bool, true, cond, ◌&&◌, List, [], ◌∷◌, ◌++◌, length, replicate, Some, None, Ok, Err, Option, Result, ◌==◌, nat_lt}
 use Rattle.command.specs.Meaning.{Meaning}
 use Rattle.command.specs.Reading.{reading}
 use Rattle.command.specs.Table.{Row, byte, table}
 use Rattle.encoder.specs.Encoding.{big_endian}
-use Rattle.lines.specs.Page.{laid}
+use Rattle.arrayvec.specs.ArrayVec.{ArrayVec, array_vec_len}
 use Rattle.command_text.specs.Words.{past_blanks, past_digits, starts_digit, value_on}
 use Rattle.command_text.specs.declared.line.Expected.{Expected}
 use Rattle.command_text.specs.declared.line.Expected.TheVariants.{Letter, Operands}
-use Rattle.command_text.specs.declared.line.Packet.{Packet}
 use Rattle.command_text.specs.declared.widths.Width.{Width}
 use Rattle.command_text.specs.declared.widths.Width.TheVariants.{Byte, Pair, Quad, Sum}
 
@@ -50,14 +49,17 @@ abbrev pub operand_bytes : List ℕ → List ℕ → Option (List ℕ)
 operand_bytes [] text = cond (ends (past_blanks text)) (Some []) None
 operand_bytes (w ∷ ws) text = one_operand w (past_blanks text) (λ s. operand_bytes ws s)
 
+-- the letter, and its operands if they could be read
 abbrev pub by_operands : ℕ → Option (List ℕ) → Result (List ℕ) Expected
 by_operands l None = Err (Operands l)
 by_operands l (Some t) = Ok (l ∷ t)
 
+-- the operands in the widths of the letter, if it has any
 abbrev pub by_widths : ℕ → List ℕ → Option (List ℕ) → Result (List ℕ) Expected
 by_widths l text None = Err Letter
 by_widths l text (Some ws) = by_operands l (operand_bytes ws text)
 
+-- the first word is a letter, unless the line ends or a comment begins
 abbrev pub from_word : List ℕ → Result (List ℕ) Expected
 from_word [] = Ok []
 from_word (l ∷ text) = cond (l == (byte "#")) (Ok []) (by_widths l text (said l))
@@ -66,26 +68,28 @@ from_word (l ∷ text) = cond (l == (byte "#")) (Ok []) (by_widths l text (said 
 abbrev pub line_bytes : List ℕ → Result (List ℕ) Expected
 line_bytes text = from_word (past_blanks text)
 
+-- what an error stands for
 -- what the answer stands for
-abbrev pub packet_of : Result Packet Expected → Result (List ℕ) Expected
-packet_of (Ok p) = Ok (take p.size p.bytes)
+abbrev pub packet_of : Result (ArrayVec ℕ) Expected → Result (List ℕ) Expected
+packet_of (Ok p) = Ok p.items
 packet_of (Err e) = Err e
 
-abbrev pub size_of : Result Packet Expected → ℕ
-size_of (Ok p) = p.size
+-- how many bytes the answer has
+abbrev pub size_of : Result (ArrayVec ℕ) Expected → ℕ
+size_of (Ok p) = array_vec_len p
 size_of (Err e) = 0
 
--- a number that fits w bytes stands from `at`, and `r` is the place behind it
-abbrev pub Packed : ℕ → ℕ → ℕ → List ℕ → List ℕ → Option ℕ → Type 0
-Packed w n at out out' None = n < 256 ^ w → ⊥
-Packed w n at out out' (Some end) = (n < 256 ^ w) × (out' ≡ laid at (big_endian w n) out) × (end ≡ at + w)
+-- a number that fits w bytes stands behind those before it
+abbrev pub Packed : ℕ → ℕ → List ℕ → Option (Unit {0}) → List ℕ → Type 0
+Packed w n out None out' = n < 256 ^ w → ⊥
+Packed w n out (Some done) out' = (n < 256 ^ w) × (out' ≡ out ++ big_endian w n)
 
--- the bytes, if there are any, stand from `at`, and `r` is the place behind them
-abbrev pub Scanned : Option (List ℕ) → ℕ → List ℕ → List ℕ → Option ℕ → Type 0
-Scanned None at out out' None = Unit {0}
-Scanned None at out out' (Some end) = ⊥
-Scanned (Some t) at out out' None = ⊥
-Scanned (Some t) at out out' (Some end) = (out' ≡ laid at t out) × (end ≡ at + length t) × (end ≤ length out)
+-- the bytes, if there are any, stand behind those before them
+abbrev pub Scanned : Option (List ℕ) → List ℕ → Option (Unit {0}) → List ℕ → Type 0
+Scanned None out None out' = Unit {0}
+Scanned None out (Some done) out' = ⊥
+Scanned (Some t) out None out' = ⊥
+Scanned (Some t) out (Some done) out' = out' ≡ out ++ t
 
 -- wherever these bytes stand, and whatever follows them, they are read as one command that ends where they end
 abbrev pub OneCommand : Result (List ℕ) Expected → Type 0

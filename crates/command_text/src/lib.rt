@@ -7,4 +7,4 @@ mod usage;
 mod widths;
 mod words;
 
-pub use line::{Expected, Packet, encode_line};
+pub use line::{Expected, encode_line};

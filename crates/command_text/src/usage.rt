@@ -1,8 +1,9 @@
 // What is said of a line that cannot be read.
-ghost use Rattle.std.specs.Prelude.{◌≡◌};
+ghost use Rattle.std.specs.Prelude.{◌≡◌, Some};
 ghost use Rattle.command_text.specs.Usage.{usage_of, wanted};
 
 use crate::line::Expected;
+use std::fmt;
 
 impl Expected {
     // What should have stood there, in words.
@@ -16,6 +17,15 @@ impl Expected {
     }
 }
 
+impl fmt::Display for Expected {
+    ghost output = { λ expected. Some (wanted expected) };
+
+    fn fmt<W: fmt::Write>(&self, f: &mut fmt::Formatter<W>) -> fmt::Result {
+        f.write_str(self.text())
+    }
+}
+
+// The operands behind a letter, and their widths.
 fn usage(letter: u8) -> &'static str
     ensures { result.now ≡ usage_of letter }
 {

@@ -1,11 +1,17 @@
 // The operands that a line says behind each letter, and how a number is packed into its width.
-ghost use Rattle.std.specs.Prelude.{◌≡◌, ◌+◌, ◌≤◌, map, length};
-ghost use Rattle.std.specs.Option.{option_map};
+ghost use Rattle.std.specs.Prelude.{◌≡◌, ◌+◌, ◌≤◌, map, Some};
+ghost use Rattle.arrayvec.specs.ArrayVec.{array_vec_len};
+ghost use Rattle.command.specs.Letters.{byte_of};
+ghost use Rattle.command.specs.Table.{total};
 ghost use Rattle.command_text.specs.Lines.{Packed, bytes_in, said};
 
-use lines::put_text;
+use Width::{Byte, Pair, Quad, Sum};
+use arrayvec::ArrayVec;
+use command::{LONGEST_COMMAND, Letter};
+use lines::append;
 
-#[derive(Clone, Copy)]
+// The bytes of an operand: one, two, four or eight.
+#[derive(Clone, Copy, PartialEq, Eq, Debug)]
 pub(crate) enum Width {
     Byte,
     Pair,
@@ -14,81 +20,43 @@ pub(crate) enum Width {
 }
 
 // The widths of the operands behind a letter; the limits of a curtailment are said one by one.
-pub(crate) fn widths(letter: u8) -> Option<&'static [Width]>
-    ensures { option_map (λ x. map bytes_in x.now) result ≡ said letter }
+pub(crate) fn widths(letter: Letter) -> &'static [Width]
+    ensures value { Some (map bytes_in result.now) ≡ said (byte_of letter) }
+    ensures room { total (map bytes_in result.now) ≤ 51 }
 {
     match letter {
-        b'D' => Some(&[Width::Byte, Width::Byte, Width::Sum, Width::Pair]),
-        b'W' | b'M' => Some(&[Width::Byte, Width::Sum]),
-        b'O' => Some(&[
-            Width::Byte,
-            Width::Byte,
-            Width::Byte,
-            Width::Byte,
-            Width::Pair,
-        ]),
-        b'B' => Some(&[Width::Byte, Width::Byte, Width::Quad, Width::Pair]),
-        b'S' | b'A' | b'X' | b'I' | b'K' | b'Q' => Some(&[Width::Byte]),
-        b'T' => Some(&[
-            Width::Byte,
-            Width::Byte,
-            Width::Byte,
-            Width::Byte,
-            Width::Byte,
-            Width::Pair,
-        ]),
-        b'R' => Some(&[Width::Byte, Width::Byte, Width::Byte, Width::Pair]),
-        b'C' => Some(&CURTAIL),
-        b'N' => Some(&[Width::Pair]),
-        _ => None,
+        Letter::Add => &[Byte, Byte, Sum, Pair],
+        Letter::Withdraw | Letter::Payment => &[Byte, Sum],
+        Letter::Open => &[Byte, Byte, Byte, Byte, Pair],
+        Letter::Bid => &[Byte, Byte, Quad, Pair],
+        Letter::Seal
+        | Letter::Award
+        | Letter::Cancel
+        | Letter::Invoice
+        | Letter::Draw
+        | Letter::Payout => &[Byte],
+        Letter::Transfer => &[Byte, Byte, Byte, Byte, Byte, Pair],
+        Letter::Return => &[Byte, Byte, Byte, Pair],
+        Letter::Curtail => &CURTAIL,
+        Letter::Day => &[Pair],
     }
 }
 
-// From, to and first hour, and a limit for each of 24 hours.
+// From, to and first hour, and a limit for each of 24 hours, written out: a static is not computed by a call or a loop.
 static CURTAIL: [Width; 27] = [
-    Width::Byte,
-    Width::Byte,
-    Width::Byte,
-    Width::Pair,
-    Width::Pair,
-    Width::Pair,
-    Width::Pair,
-    Width::Pair,
-    Width::Pair,
-    Width::Pair,
-    Width::Pair,
-    Width::Pair,
-    Width::Pair,
-    Width::Pair,
-    Width::Pair,
-    Width::Pair,
-    Width::Pair,
-    Width::Pair,
-    Width::Pair,
-    Width::Pair,
-    Width::Pair,
-    Width::Pair,
-    Width::Pair,
-    Width::Pair,
-    Width::Pair,
-    Width::Pair,
-    Width::Pair,
+    Byte, Byte, Byte, Pair, Pair, Pair, Pair, Pair, Pair, Pair, Pair, Pair, Pair, Pair, Pair, Pair,
+    Pair, Pair, Pair, Pair, Pair, Pair, Pair, Pair, Pair, Pair, Pair,
 ];
 
-// Writes a number that fits its width, and answers the place behind it.
-pub(crate) fn pack(out: &mut [u8], at: usize, width: Width, value: u64) -> Option<usize>
-    requires { at + bytes_in width ≤ length out.old }
-    ensures { Packed (bytes_in width) value at out.old out.new result }
+// Appends a number that fits its width.
+pub(crate) fn pack(out: &mut ArrayVec<u8, LONGEST_COMMAND>, width: Width, value: u64) -> Option<()>
+    requires { array_vec_len out.old + bytes_in width ≤ 52 }
+    ensures { Packed (bytes_in width) value out.old.items result out.new.items }
 {
-    match width {
-        Width::Byte if value < 0x100 => Some(put_text(out, at, &[value as u8])),
-        Width::Pair if value < 0x1_0000 => Some(put_text(out, at, &(value as u16).to_be_bytes())),
-        Width::Quad if value < 0x1_0000_0000 => Some(put_text(
-            out,
-            at,
-            &(value as u32).to_be_bytes(),
-        )),
-        Width::Sum => Some(put_text(out, at, &value.to_be_bytes())),
-        _ => None,
-    }
+    Some(match width {
+        Byte => append(out, &u8::try_from(value).ok()?.to_be_bytes()),
+        Pair => append(out, &u16::try_from(value).ok()?.to_be_bytes()),
+        Quad => append(out, &u32::try_from(value).ok()?.to_be_bytes()),
+        Sum => append(out, &value.to_be_bytes()),
+    })
 }

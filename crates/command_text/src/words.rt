@@ -1,34 +1,21 @@
 // Blanks and numbers at the front of a text.
 ghost use Rattle.std.specs.Prelude.{◌≡◌, ◌+◌, ◌-◌, ◌*◌, ◌^◌, ◌<◌, true};
 ghost use Rattle.std.specs.Option.{SomeIff};
-ghost use Rattle.command_text.specs.Words.{Number, blank, digit, past_blanks};
-
-fn is_blank(b: u8) -> bool
-    ensures { result ≡ blank b }
-{
-    b == b' ' || b == b'\t' || b == b'\r'
-}
-
-fn is_digit(b: u8) -> bool
-    ensures { result ≡ digit b }
-{
-    b'0' <= b && b <= b'9'
-}
+ghost use Rattle.command_text.specs.Words.{Number, digit, past_blanks};
 
 // What stands behind the blanks at the front.
 pub(crate) fn skip_blanks(text: &[u8]) -> &[u8]
     ensures { result.now ≡ past_blanks text.now }
 {
-    for i in 0..text.len() {
-        if !is_blank(text[i]) {
-            return &text[i..];
-        }
+    let mut rest = text;
+    while let [b' ' | b'\t' | b'\r', behind @ ..] = rest {
+        rest = behind;
     }
-    &[]
+    rest
 }
 
 // A number with one digit more; none past 64 bits.
-fn append(value: u64, b: u8) -> Option<u64>
+fn append_digit(value: u64, b: u8) -> Option<u64>
     requires { digit b ≡ true }
     ensures { SomeIff result (value * 10 + (b - 48) < 2 ^ 64) (value * 10 + (b - 48)) }
 {
@@ -39,15 +26,14 @@ fn append(value: u64, b: u8) -> Option<u64>
 pub(crate) fn number(text: &[u8]) -> Option<(u64, &[u8])>
     ensures { Number text.now result }
 {
-    if text.is_empty() || !is_digit(text[0]) {
+    let [b'0'..=b'9', ..] = text else {
         return None;
-    }
+    };
     let mut value = 0;
-    for i in 0..text.len() {
-        if !is_digit(text[i]) {
-            return Some((value, &text[i..]));
-        }
-        value = append(value, text[i])?;
+    let mut rest = text;
+    while let [b @ b'0'..=b'9', behind @ ..] = rest {
+        value = append_digit(value, *b)?;
+        rest = behind;
     }
-    Some((value, &[]))
+    Some((value, rest))
 }

@@ -3,8 +3,6 @@
 #![tactic(auto)]
 
 use book::Book;
-use collateral::cash::Cash;
-use collateral::guarantees::Guarantees;
 use collateral::joined::Joined;
 use runner::{MOST_INPUT, run_file};
 use std::io;
@@ -17,10 +15,7 @@ fn run(rt: &HostRuntime) -> io::Result<()> {
     rt.stdin()
         .take(MOST_INPUT as u64 + 1)
         .read_to_end(&mut input)?;
-    let mut book = Book::new(Joined {
-        first: Cash::new(),
-        second: Guarantees::new(),
-    });
+    let mut book = Book::new(Joined::new());
     run_file(&mut book, &input, &mut rt.stdout())
 }
 

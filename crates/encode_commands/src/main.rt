@@ -6,18 +6,15 @@ use command_text::{Expected, encode_line};
 use std::io;
 use std::io::{BufRead, BufReader, Write};
 use std::process::ExitCode;
+use thiserror::Error;
 
 // Why the program stops before the end of its input.
-#[derive(Drop)]
+#[derive(Debug, Drop, Error)]
 enum Stop {
+    #[error("line {number}: expected {expected}")]
     Line { number: usize, expected: Expected },
-    Failed(io::Error),
-}
-
-impl From<io::Error> for Stop {
-    fn from(error: io::Error) -> Stop {
-        Stop::Failed(error)
-    }
+    #[error(transparent)]
+    Failed(#[from] io::Error),
 }
 
 fn run(rt: &HostRuntime) -> Result<(), Stop> {
@@ -26,15 +23,11 @@ fn run(rt: &HostRuntime) -> Result<(), Stop> {
         .lines(rt.alloc())
         .enumerate()
     {
-        match encode_line(line?.as_bytes()) {
-            Ok(packet) => out.write_all(&packet.bytes[0..packet.size])?,
-            Err(expected) => {
-                return Err(Stop::Line {
-                    number: i.saturating_add(1),
-                    expected,
-                });
-            }
-        }
+        let command = encode_line(line?.as_bytes()).map_err(|expected| Stop::Line {
+            number: i.saturating_add(1),
+            expected,
+        })?;
+        out.write_all(&command)?;
     }
     Ok(())
 }
@@ -44,12 +37,6 @@ fn main(rt: HostRuntime) -> ExitCode {
         return ExitCode::SUCCESS;
     };
     // Standard error may be closed; the exit status says that the program failed all the same.
-    let _ = match stop {
-        Stop::Line { number, expected } => {
-            let expected = expected.text();
-            eprintln!(rt; "line {number}: expected {expected}")
-        }
-        Stop::Failed(error) => eprintln!(rt; "{error}"),
-    };
+    let _ = eprintln!(rt; "{stop}");
     ExitCode::FAILURE
 }

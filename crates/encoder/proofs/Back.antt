@@ -1,5 +1,6 @@
 -- Reading gives back what was written.
 use Rattle.std.proofs.Common.{◌≡◌, ℕ, zero, suc, ◌+◌, ◌*◌, ◌/◌, ◌%◌, ◌^◌, ◌<◌, ◌≤◌, cond, leb, List, [], ◌∷◌, ◌++◌, length, get_or, drop, Some, Ok, Err, Result, sym, refl, ap, ◌∙◌, append_assoc, le_of_suc-le-suc, add-zero, mod-eq_of_lt, div-one, add-one, arith, length-append, le-leb}
+use Rattle.std.proofs.lemmas.Bool.{cond-true}
 use native.Mathlib.Nat.{pow-succ', mod-one, one-le-pow}
 use lib.Arith.{mod-mul}
 use Rattle.std.proofs.lemmas.List.{get_or-drop, get_or-append-add, drop-drop, drop_at, take_at}
@@ -61,7 +62,7 @@ got n m = Ok (record { meaning = m; bytes = n })
 
 -- a command that the input has whole
 whole_is : (s : List ℕ) (n : ℕ) (x m : Meaning) → n ≤ length s → x ≡ m → cond (leb n (length s)) (got n x) (Err CutShort) ≡ got n m
-whole_is s n x m h e = ap (λ b. cond b (got n x) (Err CutShort)) (le-leb n (length s) h) ∙ ap (got n) e
+whole_is s n x m h e = cond-true _ _ _ (le-leb n (length s) h) ∙ ap (got n) e
 
 -- a row whose operands are all numbers gives them back
 row_back : (r : Row) (ns rest : List ℕ) (m : Meaning) → ((bs : ℕ → List ℕ) → r.says (λ k. get_or ns k 0) bs ≡ m) → Fit r.widths ns → length r.widths ≤ length ns → whole r (r.letter ∷ (packed r.widths ns ++ rest)) ≡ got (1 + total r.widths) m

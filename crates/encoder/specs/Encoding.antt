@@ -3,7 +3,6 @@ use Rattle.std.specs.Prelude.{◌≡◌, ℕ, zero, suc, ◌+◌, ◌/◌, ◌%�
 use Rattle.command.specs.Meaning.{Meaning, adds, withdraws, opens, bids, seals, awards, cancels, transfers, gives_back, curtails, invoices, pays, draws, pays_out, moves_day}
 use Rattle.command.specs.Table.{letter_of, row_of, total}
 use Rattle.command.specs.Reading.{reading}
-use Rattle.lines.specs.Page.{laid}
 
 -- the operands that are numbers, in the table's order
 abbrev pub operands_of : Meaning → List ℕ
@@ -83,9 +82,8 @@ ReadsBack m bytes =
     (before rest : List ℕ) →
     reading (before ++ (bytes ++ rest)) (length before) ≡ Some (Ok (record { meaning = m; next = length before + length bytes }))
 
--- the bytes of a command at the front of `out`, all its other bytes as they were, and the number of these bytes
-pub record Encoded (m : Meaning) (out out' : List ℕ) (size : ℕ) : Type 0 where
-  pub after : out' ≡ laid 0 (encoding m) out
-  pub value : size ≡ length (encoding m)
-  pub within : size ≤ 52
-  pub back : ReadsBack m (encoding m)
+-- these are the bytes of a command; they have room, and are read as it
+pub record Encoded (m : Meaning) (bytes : List ℕ) : Type 0 where
+  pub value : bytes ≡ encoding m
+  pub within : length bytes ≤ 52
+  pub back : ReadsBack m bytes

@@ -2,56 +2,59 @@
 
 #![tactic(auto)]
 
-ghost use Rattle.std.specs.Prelude.{◌≡◌, ◌≤◌, length};
+ghost use Rattle.std.specs.Prelude.{◌≡◌, ◌+◌, ◌≤◌, ◌++◌, length};
 ghost use Rattle.encoder.specs.Encoding.{Encoded, one_byte_each};
 ghost use Rattle.command.specs.Meaning.{meaning_of};
-ghost use Rattle.lines.specs.Page.{laid};
 
+use arrayvec::ArrayVec;
 use command::{Command, LONGEST_COMMAND};
-use lines::put_text;
+use lines::append;
 
-// Writes a command at the front of `out`, and answers how many bytes it takes.
-pub fn encode(command: Command, out: &mut [u8; LONGEST_COMMAND]) -> usize
-    ensures { Encoded (meaning_of command.entry) out.old out.new result }
+// The bytes of a command, with an arm for each: its letter, its operands of one byte, and the wider ones.
+pub fn encode(command: Command) -> ArrayVec<u8, LONGEST_COMMAND>
+    ensures { Encoded (meaning_of command.entry) result.items }
 {
+    let letter = u8::from(command.letter());
     match command {
         Command::Add {
             participant,
             kind,
             sum,
             last_day,
-        } => {
-            let at = put_front(out, &[b'D', participant, kind]);
-            let at = put_text(out, at, &sum.to_be_bytes());
-            put_text(out, at, &last_day.to_be_bytes())
-        }
-        Command::Withdraw { participant, sum } => {
-            let at = put_front(out, &[b'W', participant]);
-            put_text(out, at, &sum.to_be_bytes())
-        }
+        } => joined(
+            &[letter, participant, kind],
+            &sum.to_be_bytes(),
+            &last_day.to_be_bytes(),
+        ),
+        Command::Withdraw { participant, sum } => joined(
+            &[letter, participant],
+            &sum.to_be_bytes(),
+            &[],
+        ),
         Command::Open {
             from,
             to,
             first_hour,
             hours,
             capacity,
-        } => {
-            let at = put_front(out, &[b'O', from, to, first_hour, hours]);
-            put_text(out, at, &capacity.to_be_bytes())
-        }
+        } => joined(
+            &[letter, from, to, first_hour, hours],
+            &capacity.to_be_bytes(),
+            &[],
+        ),
         Command::Bid {
             participant,
             auction,
             price,
             mw,
-        } => {
-            let at = put_front(out, &[b'B', participant, auction]);
-            let at = put_text(out, at, &price.to_be_bytes());
-            put_text(out, at, &mw.to_be_bytes())
-        }
-        Command::Seal { auction } => put_front(out, &[b'S', auction]),
-        Command::Award { auction } => put_front(out, &[b'A', auction]),
-        Command::Cancel { auction } => put_front(out, &[b'X', auction]),
+        } => joined(
+            &[letter, participant, auction],
+            &price.to_be_bytes(),
+            &mw.to_be_bytes(),
+        ),
+        Command::Seal { auction } => joined(&[letter, auction], &[], &[]),
+        Command::Award { auction } => joined(&[letter, auction], &[], &[]),
+        Command::Cancel { auction } => joined(&[letter, auction], &[], &[]),
         Command::Transfer {
             giver,
             taker,
@@ -59,47 +62,43 @@ pub fn encode(command: Command, out: &mut [u8; LONGEST_COMMAND]) -> usize
             first_hour,
             hours,
             mw,
-        } => {
-            let at = put_front(out, &[b'T', giver, taker, auction, first_hour, hours]);
-            put_text(out, at, &mw.to_be_bytes())
-        }
+        } => joined(
+            &[letter, giver, taker, auction, first_hour, hours],
+            &mw.to_be_bytes(),
+            &[],
+        ),
         Command::Return {
             participant,
             out_of,
             into,
             mw,
-        } => {
-            let at = put_front(out, &[b'R', participant, out_of, into]);
-            put_text(out, at, &mw.to_be_bytes())
-        }
+        } => joined(&[letter, participant, out_of, into], &mw.to_be_bytes(), &[]),
         Command::Curtail {
             from,
             to,
             first_hour,
             limits,
-        } => {
-            let at = put_front(out, &[b'C', from, to, first_hour]);
-            put_text(out, at, limits)
-        }
-        Command::Invoice { participant } => put_front(out, &[b'I', participant]),
-        Command::Payment { participant, sum } => {
-            let at = put_front(out, &[b'M', participant]);
-            put_text(out, at, &sum.to_be_bytes())
-        }
-        Command::Draw { participant } => put_front(out, &[b'K', participant]),
-        Command::Payout { participant } => put_front(out, &[b'Q', participant]),
-        Command::Day { day } => {
-            let at = put_front(out, b"N");
-            put_text(out, at, &day.to_be_bytes())
-        }
+        } => joined(&[letter, from, to, first_hour], limits, &[]),
+        Command::Invoice { participant } => joined(&[letter, participant], &[], &[]),
+        Command::Payment { participant, sum } => joined(
+            &[letter, participant],
+            &sum.to_be_bytes(),
+            &[],
+        ),
+        Command::Draw { participant } => joined(&[letter, participant], &[], &[]),
+        Command::Payout { participant } => joined(&[letter, participant], &[], &[]),
+        Command::Day { day } => joined(&[letter], &day.to_be_bytes(), &[]),
     }
 }
 
-// Writes the letter and the operands of one byte, which stand before all others.
-fn put_front(out: &mut [u8], front: &[u8]) -> usize
-    requires { length front.now ≤ length out.old }
-    ensures after { out.new ≡ laid 0 (one_byte_each front.now) out.old }
-    ensures value { result ≡ length front.now }
+// The letter with the operands of one byte, which stand before all others, and behind them at most two wider ones.
+fn joined(front: &[u8], first: &[u8], last: &[u8]) -> ArrayVec<u8, LONGEST_COMMAND>
+    requires { length front.now + length first.now + length last.now ≤ 52 }
+    ensures { result.items ≡ one_byte_each front.now ++ first.now ++ last.now }
 {
-    put_text(out, 0, front)
+    let mut bytes = ArrayVec::new();
+    append(&mut bytes, front);
+    append(&mut bytes, first);
+    append(&mut bytes, last);
+    bytes
 }

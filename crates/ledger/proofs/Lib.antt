@@ -1,3 +1,4 @@
+pub mod Copies
 pub mod Sheets
 pub mod Kept
 pub mod Loads
@@ -6,4 +7,5 @@ pub mod Owing
 pub mod Sounds
 pub mod RightsKept
 pub mod MoneyKept
+pub mod Turns
 pub mod Within

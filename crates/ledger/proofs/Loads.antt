@@ -1,10 +1,13 @@
 -- What each call does to what a participant owes and has held.
-use Rattle.std.proofs.Common.{◌≡◌, ℕ, zero, suc, ◌+◌, ◌-◌, ◌<◌, ◌≤◌, List, [], ◌∷◌, map, length, get_or, set, replicate, refl, ap, ◌∙◌, subst, le_of_suc-le-suc, arith}
+use Rattle.std.proofs.Common.{◌≡◌, ℕ, zero, suc, ◌+◌, ◌-◌, ◌<◌, ◌≤◌, List, [], ◌∷◌, map, length, get_or, set, replicate, refl, ap, ◌∙◌, subst, arith}
 use Rattle.std.proofs.lemmas.List.{get_or-map, length-map, get_or-set_same}
 use Rattle.roll.specs.Rows.{each_with}
 use Rattle.roll.specs.Sums.{sum_of}
 use Rattle.roll.proofs.Rows.{set_le, with_le}
+use Rattle.roll.proofs.Changes.{sum_down}
 use Rattle.roll.proofs.Sums.{sum_none, sum_set_le}
+use Rattle.std.proofs.lemmas.List.FromFn.{get_or-map-range_with_len}
+use Rattle.ledger.proofs.Copies.{at_copy}
 use Rattle.account.specs.Invoices.{new_account, owed}
 use Rattle.account.specs.Settling.{charged, claiming, invoiced, paid, paid_out}
 use Rattle.account.specs.declared.accounts.Account.{Account}
@@ -37,9 +40,7 @@ held_by s = s.held
 
 -- OPEN: nothing is held in a new auction
 none_held : (n k : ℕ) → held_by (get_or (replicate n no_bids) k no_sheet) ≡ 0
-none_held zero k = refl
-none_held (suc n) zero = refl
-none_held (suc n) (suc k) = none_held n k
+none_held n k = at_copy (λ (s : Sheet). held_by s ≡ 0) no_bids no_sheet refl refl n k
 
 pub held_open : (d : Direction) (first : ℕ) (product : Product) (capacity : ℕ) (l : Ledger) (p : ℕ) → held_sums (opened_with (new_auction d first product capacity) l) p ≤ held_sums l p
 held_open d first product capacity l p =
@@ -61,19 +62,7 @@ held_seal limits x p =
     with_le (λ limit. sealed limit x.product) held_by (λ n. n) (λ limit s. omega (arith, (longest_front limit x.product (bids_of s)).fits)) limits x.sheets 0 no_sheet (p - 1)
 
 limit_place : (f : ℕ → ℕ) (i : ℕ) → i < 12 → get_or (map f (1 ∷ 2 ∷ 3 ∷ 4 ∷ 5 ∷ 6 ∷ 7 ∷ 8 ∷ 9 ∷ 10 ∷ 11 ∷ 12 ∷ [])) i 0 ≡ f (i + 1)
-limit_place f zero h = refl
-limit_place f (suc zero) h = refl
-limit_place f (suc (suc zero)) h = refl
-limit_place f (suc (suc (suc zero))) h = refl
-limit_place f (suc (suc (suc (suc zero)))) h = refl
-limit_place f (suc (suc (suc (suc (suc zero))))) h = refl
-limit_place f (suc (suc (suc (suc (suc (suc zero)))))) h = refl
-limit_place f (suc (suc (suc (suc (suc (suc (suc zero))))))) h = refl
-limit_place f (suc (suc (suc (suc (suc (suc (suc (suc zero)))))))) h = refl
-limit_place f (suc (suc (suc (suc (suc (suc (suc (suc (suc zero))))))))) h = refl
-limit_place f (suc (suc (suc (suc (suc (suc (suc (suc (suc (suc zero)))))))))) h = refl
-limit_place f (suc (suc (suc (suc (suc (suc (suc (suc (suc (suc (suc zero))))))))))) h = refl
-limit_place f (suc (suc (suc (suc (suc (suc (suc (suc (suc (suc (suc (suc i)))))))))))) h = absurd (omega arith)
+limit_place f i h = get_or-map-range_with_len f 1 12 i (i + 1) 0 h (omega arith)
 
 -- the limit found for a participant is its credit limit
 pub limit_found : (l : Ledger) (cover : Cover) (p : ℕ) → 1 ≤ p → p ≤ 12 → get_or (all_limits l cover) (p - 1) 0 ≡ credit_limit l cover p
@@ -85,17 +74,12 @@ freed_none [] k = refl
 freed_none (s ∷ ss) zero = refl
 freed_none (s ∷ ss) (suc k) = freed_none ss k
 
-sum_set_down : {X : Type 0} (f : X → ℕ) (xs : List X) (i : ℕ) (y d : X) (b : ℕ) → i < length xs → f y + b ≤ f (get_or xs i d) → sum_of f (set xs i y) + b ≤ sum_of f xs
-sum_set_down f [] i y d b h le = absurd (omega arith)
-sum_set_down f (x ∷ xs) zero y d b h le = omega arith
-sum_set_down f (x ∷ xs) (suc i) y d b h le = omega (arith, sum_set_down f xs i y d b (le_of_suc-le-suc h) le)
-
 pub held_cancel : (a : ℕ) (l : Ledger) (p : ℕ) → held_sums (auction_cancelled a l) p ≤ held_sums l p
 held_cancel a l p = omega (arith, held_put l a p 0 (cancelled (auction_at l a)) (omega (arith, freed_none (auction_at l a).sheets (p - 1))))
 
 pub held_award : (a : ℕ) (l : Ledger) (p : ℕ) → SoundAuctions l → 1 ≤ a → a ≤ l.opened → held_sums (auction_awarded a l) p + held_in p (auction_at l a) ≤ held_sums l p
 held_award a l p h a1 a2 =
-    sum_set_down (held_in p) l.auctions (a - 1) (awarded_as (auction_at l a)) no_auction (held_in p (auction_at l a)) (omega (arith, h.rows, h.opened)) (omega (arith, freed_none (auction_at l a).sheets (p - 1)))
+    sum_down (held_in p) no_auction refl l.auctions (a - 1) (awarded_as (auction_at l a)) (held_in p (auction_at l a)) (omega (arith, freed_none (auction_at l a).sheets (p - 1)))
 
 -- the due is at most the held sum
 pub due_held : (x : Auction) (p : ℕ) → SoundAuction x → x.stage ≡ Sealed → 1 ≤ p → p ≤ 12 → get_or (dues_of x.product (outcome x)) (p - 1) 0 ≤ held_in p x
@@ -154,9 +138,7 @@ overdue_owed l p = omega (arith, overdue_within l.day (account_at l p))
 
 -- A NEW LEDGER: nobody owes anything, and nothing is held
 none_owed : (n k : ℕ) → owed (get_or (replicate n new_account) k no_account) ≡ 0
-none_owed zero k = refl
-none_owed (suc n) zero = refl
-none_owed (suc n) (suc k) = none_owed n k
+none_owed n k = at_copy (λ (x : Account). owed x ≡ 0) new_account no_account refl refl n k
 
 pub owes_new : (p : ℕ) → owes new_ledger p ≡ 0
 owes_new p = none_owed 12 (p - 1)

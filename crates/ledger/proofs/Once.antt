@@ -6,7 +6,7 @@ use base.Stored.{coded_bool, coded_ℕ}
 use native.Mathlib.Bridge.{le_prop}
 use Rattle.std.proofs.Common.{ℕ, Bool, List, [], ◌∷◌}
 use mathlib.Core.Logic.{∥∥₁_elim}
-use Rattle.std.specs.List.{AllByRecursion}
+use Rattle.std.specs.List.{AllByRecursion-prop}
 use Rattle.roll.specs.Rolls.{Heads, Ordered}
 use Rattle.account.specs.declared.accounts.Account.{Account}
 use Rattle.auction.specs.Bids.{Lawful, Within}
@@ -21,10 +21,6 @@ use Rattle.ledger.specs.declared.ledgers.Ledger.{Ledger}
 use Rattle.ledger.specs.Bounds.{SoundMoney, SoundRights}
 use Rattle.ledger.specs.Sound.{Priced, Sound, SoundAccount, SoundAccounts, SoundAuction, SoundAuctions, SoundSheet, Staged}
 
-all_once : {X : Type 0} (P : X → Type 0) → ((x : X) → IsProp (P x)) → (xs : List X) → IsProp (AllByRecursion P xs)
-all_once P h [] = Done-prop
-all_once P h (x ∷ xs) = Also-prop (h x) (λ _. all_once P h xs)
-
 heads_once : {X : Type 0} (first : X → X → Bool) (x : X) (ys : List X) → IsProp (Heads first x ys)
 heads_once first x [] = Done-prop
 heads_once first x (y ∷ ys) = Also-prop (≡_prop coded_bool _ _) (λ _. heads_once first x ys)
@@ -34,7 +30,7 @@ ordered_once first [] = Done-prop
 ordered_once first (x ∷ xs) = Also-prop (heads_once first x xs) (λ _. ordered_once first xs)
 
 within_once : (c : ℕ) (bs : List Bid) → IsProp (Within c bs)
-within_once c bs = hlevel (le_prop, all_once Lawful (λ b. hlevel le_prop) bs)
+within_once c bs = hlevel (le_prop, AllByRecursion-prop Lawful (λ b. hlevel le_prop) bs)
 
 sheet_once : {c : ℕ} {s : Sheet} → IsProp (SoundSheet c s)
 sheet_once x y i = record {

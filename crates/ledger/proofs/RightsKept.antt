@@ -1,5 +1,5 @@
 -- Every granted call keeps the rights within their bounds.
-use Rattle.std.proofs.Common.{◌≡◌, ℕ, zero, suc, ◌+◌, ◌-◌, ◌<◌, ◌≤◌, Bool, true, false, cond, ◌||◌, ltb, leb, ◌≢◌, ◌⊎◌, List, length, get_or, set, replicate, sym, refl, ap, ◌∙◌, subst, inl, inr, arith}
+use Rattle.std.proofs.Common.{◌≡◌, ℕ, ◌+◌, ◌-◌, ◌<◌, ◌≤◌, Bool, true, false, cond, ◌||◌, ltb, leb, ◌≢◌, ◌⊎◌, List, length, get_or, set, replicate, sym, refl, ap, ◌∙◌, subst, inl, inr, arith}
 use Rattle.std.proofs.lemmas.List.{get_or-set_same, get_or-set_other}
 use Rattle.std.proofs.lemmas.Bool.{and_cases, and_from, and_left, and_parts, both_ways, cases_eq, leb-false, leb-true, ltb-false, ltb-true, true≢false}
 use Rattle.roll.specs.Sums.{sum_of}
@@ -17,6 +17,7 @@ use Rattle.rights.proofs.Amounts.{nothing_at, nothing_in, over_length}
 use Rattle.rights.proofs.Curtailments.{size_stays}
 use Rattle.rights.proofs.Earned.{curtailed_at}
 use Rattle.rights.proofs.Totals.{awarded_at, awarded_others, given_back_at, given_back_out, returned_at, returned_in, transferred_at, waiting_all, waiting_at, waiting_others}
+use Rattle.ledger.proofs.Copies.{at_copy}
 use Rattle.ledger.specs.declared.auctions.Auction.{Auction}
 use Rattle.ledger.specs.declared.auctions.Direction.{Direction}
 use Rattle.ledger.specs.declared.auctions.Stage.{Stage}
@@ -39,9 +40,7 @@ none_waits h a x none = go (delivers h x)
 
 -- A NEW LEDGER
 new_place : (n a : ℕ) → (hour_mw (get_or (replicate n unopened_auction) a no_auction).returned ≡ 0) × ((b : ℕ) → held_mw b (get_or (replicate n unopened_auction) a no_auction).returned ≡ 0)
-new_place zero a = (refl, λ b. refl)
-new_place (suc n) zero = (refl, nothing_at)
-new_place (suc n) (suc a) = new_place n a
+new_place n a = at_copy (λ (x : Auction). (hour_mw x.returned ≡ 0) × ((b : ℕ) → held_mw b x.returned ≡ 0)) unopened_auction no_auction (refl, nothing_at) (refl, λ b. refl) n a
 
 pub rights_new : SoundRights new_ledger
 rights_new = record {

@@ -1,5 +1,5 @@
 -- Sheets stay sound as bids are placed, cut and freed.
-use Rattle.std.proofs.Common.{◌≡◌, ℕ, ◌+◌, ◌<◌, ◌≤◌, true, false, List, length, get_or, take, refl, ◌∙◌, subst, arith}
+use Rattle.std.proofs.Common.{◌≡◌, ℕ, ◌+◌, ◌-◌, ◌<◌, ◌≤◌, true, false, List, length, get_or, take, refl, ◌∙◌, subst, arith}
 use Rattle.std.proofs.ByRecursion.{All-take}
 use Rattle.std.proofs.lemmas.List.{length-take}
 use Rattle.std.proofs.lemmas.Bool.Decides.{nat_tests}
@@ -7,7 +7,8 @@ use Rattle.roll.specs.Rolls.{inserted}
 use Rattle.roll.proofs.Insertions.{sum_inserted, all_inserted, length_laid}
 use Rattle.roll.proofs.Moves.{length_inserted, put_front}
 use Rattle.roll.proofs.Orders.{ordered_inserted}
-use Rattle.roll.proofs.Sums.{sum_take}
+use Rattle.roll.proofs.Sums.{sum_take, sum_under}
+use Rattle.roll.specs.Sums.{sum_of}
 use Rattle.auction.specs.Bids.{Lawful, Within, bids_of, dearer, mw_all, with_bid}
 use Rattle.auction.specs.declared.bids.Bid.{Bid}
 use Rattle.auction.specs.declared.sheets.Sheet.{Sheet}
@@ -56,3 +57,10 @@ kept_few x h stage i lt =
     let s : Sheet = get_or x.sheets i no_sheet in
     let g = subst (λ st. Staged st x.product s) stage (h.staged i lt) in
     omega (arith, g.0, kept_within s.limit x.product (bids_of s), (h.sheets i lt).bids.0)
+
+-- so it keeps, and leaves out, at most 48 of all bids
+pub kept_in_all : (x : Auction) → SoundAuction x → x.stage ≡ Sealed → sum_of (λ (s : Sheet). s.kept) x.sheets ≤ 48
+kept_in_all x h stage = omega (arith, h.rows, sum_under (λ (s : Sheet). s.kept) 4 x.sheets no_sheet (λ i lt. kept_few x h stage i (omega (arith, h.rows))))
+
+pub left_in_all : (x : Auction) → SoundAuction x → sum_of (λ (s : Sheet). s.count - s.kept) x.sheets ≤ 48
+left_in_all x h = omega (arith, h.rows, sum_under (λ (s : Sheet). s.count - s.kept) 4 x.sheets no_sheet (λ i lt. omega (arith, (h.sheets i (omega (arith, h.rows))).count)))

@@ -1,5 +1,6 @@
 pub mod Auctions
 pub mod Bounds
+pub mod Changes
 pub mod Ledgers
 pub mod Limits
 pub mod Moves

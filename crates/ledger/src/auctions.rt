@@ -1,27 +1,20 @@
 // An auction, from its opening to its award.
 ghost use Rattle.std.specs.Prelude.{◌≡◌};
-ghost use Rattle.ledger.specs.Auctions.{new_auction, same_way};
+ghost use Rattle.ledger.specs.Auctions.{new_auction};
+ghost use Rattle.ledger.specs.Sound.{SoundAuction};
 
-use auction::{PARTICIPANTS, Product, Sheet};
-use rights::{AUCTIONS, Hour};
+use auction::{Product, Sheet};
+use numbering::{PARTICIPANTS, Span};
+use rights::Hour;
 
 // From one zone to another: 1 to 2 and 2 to 1 are two directions.
-#[derive(Clone, Copy)]
+#[derive(Clone, Copy, PartialEq, Eq, Debug)]
 pub struct Direction {
     pub from: u8,
     pub to: u8,
 }
 
-impl Direction {
-    // As ordered pairs: the other way round is another direction.
-    pub fn same_as(self, other: Direction) -> bool
-        ensures { result ≡ same_way self other }
-    {
-        self.from == other.from && self.to == other.to
-    }
-}
-
-#[derive(Clone, Copy)]
+#[derive(Clone, Copy, PartialEq, Eq, Debug)]
 pub enum Stage {
     Open,
     Sealed,
@@ -54,9 +47,19 @@ impl Auction {
             capacity,
             stage: Stage::Open,
             sheets: [Sheet::empty(); PARTICIPANTS],
-            returned: Hour {
-                rows: [[0; PARTICIPANTS]; AUCTIONS],
-            },
+            returned: Hour::empty(),
+        }
+    }
+
+    // Its hours of delivery.
+    pub fn span(&self) -> Span
+        requires { SoundAuction self.now }
+        ensures first { result.first ≡ self.now.first }
+        ensures hours { result.hours ≡ self.now.product.hours }
+    {
+        Span {
+            first: usize::from(self.first),
+            hours: usize::from(self.product.hours),
         }
     }
 }

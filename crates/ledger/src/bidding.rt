@@ -10,15 +10,16 @@ ghost use Rattle.auction.specs.Bids.{with_bid};
 use super::auctions::Auction;
 use super::ledgers::Ledger;
 use super::stages::Turn;
-use auction::{Bid, PARTICIPANTS, seal_all};
+use auction::{Bid, seal_all};
+use numbering::{AuctionNumber, PARTICIPANTS, Participant};
 
 impl Auction {
     // Puts a participant's bid onto its sheet.
-    fn place(&mut self, p: u8, bid: Bid)
-        requires { (1 ≤ p) × ((p ≤ 12) × ((sheet_of p self.old).count < 4)) }
-        ensures { self.new ≡ with_sheet p (with_bid bid (sheet_of p self.old)) self.old }
+    fn place(&mut self, p: Participant, bid: Bid)
+        requires { (sheet_of p.number self.old).count < 4 }
+        ensures { self.new ≡ with_sheet p.number (with_bid bid (sheet_of p.number self.old)) self.old }
     {
-        self.sheets[p as usize - 1].place(bid);
+        self.sheets[p.index()].place(bid).unwrap();
     }
 
     // How many bids the seal kept, of all participants.
@@ -26,11 +27,7 @@ impl Auction {
         requires { (SoundAuction self.now) × (self.now.stage ≡ Sealed) }
         ensures { result ≡ bids_kept self.now }
     {
-        let mut sum = 0;
-        for sheet in &self.sheets {
-            sum += sheet.kept as u64;
-        }
-        sum
+        self.sheets.iter().map(|sheet| sheet.kept as u64).sum()
     }
 
     // How many bids the seal left out, of all participants.
@@ -38,11 +35,10 @@ impl Auction {
         requires { SoundAuction self.now }
         ensures { result ≡ bids_left_out self.now }
     {
-        let mut sum = 0;
-        for sheet in &self.sheets {
-            sum += sheet.count.saturating_sub(sheet.kept) as u64;
-        }
-        sum
+        self.sheets
+            .iter()
+            .map(|sheet| sheet.count.saturating_sub(sheet.kept) as u64)
+            .sum()
     }
 
     // Cuts every participant's bids at its credit limit, and closes the auction for bids.
@@ -51,7 +47,7 @@ impl Auction {
         ensures { self.new ≡ sealed_at limits.now self.old }
     {
         seal_all(&mut self.sheets, self.product, limits);
-        self.stage.turn(Turn::Seal);
+        self.stage.turn(Turn::Seal).unwrap();
     }
 }
 
@@ -66,36 +62,37 @@ impl Ledger {
     }
 
     // Places a bid, and counts its receipt.
-    pub fn bid(&mut self, p: u8, a: u8, bid: Bid)
-        requires who { (1 ≤ p) × ((p ≤ 12) × ((1 ≤ a) × (a ≤ 8))) }
-        requires place { ((sheet_at self.old a p).count < 4) × (self.old.receipts < 1000) }
-        ensures { self.new ≡ bid_placed p a bid self.old }
+    pub fn bid(&mut self, p: Participant, a: AuctionNumber, bid: Bid)
+        requires place { (sheet_at self.old a.number p.number).count < 4 }
+        requires receipts { self.old.receipts < 1000 }
+        ensures { self.new ≡ bid_placed p.number a.number bid self.old }
     {
-        self.auctions[a as usize - 1].place(p, bid);
+        self.auctions[a.index()].place(p, bid);
         self.receipts += 1;
     }
 
     // Seals an auction at the credit limits of its bidders.
-    pub fn seal(&mut self, a: u8, limits: &[u64; PARTICIPANTS])
-        requires { (1 ≤ a) × ((a ≤ 8) × ((auction_at self.old a).stage ≡ Open)) }
-        ensures { self.new ≡ auction_sealed a limits.now self.old }
+    pub fn seal(&mut self, a: AuctionNumber, limits: &[u64; PARTICIPANTS])
+        requires { (auction_at self.old a.number).stage ≡ Open }
+        ensures { self.new ≡ auction_sealed a.number limits.now self.old }
     {
-        self.auctions[a as usize - 1].seal(limits);
+        self.auctions[a.index()].seal(limits);
     }
 
     // How many bids the seal of an auction kept.
-    pub fn bids_kept(&self, a: u8) -> u64
-        requires { (1 ≤ a) × ((a ≤ 8) × ((SoundAuction (auction_at self.now a)) × ((auction_at self.now a).stage ≡ Sealed))) }
-        ensures { result ≡ bids_kept (auction_at self.now a) }
+    pub fn bids_kept(&self, a: AuctionNumber) -> u64
+        requires sound { SoundAuction (auction_at self.now a.number) }
+        requires stage { (auction_at self.now a.number).stage ≡ Sealed }
+        ensures { result ≡ bids_kept (auction_at self.now a.number) }
     {
-        self.auctions[a as usize - 1].bids_kept()
+        self.auction(a).bids_kept()
     }
 
     // How many bids it left out.
-    pub fn bids_left_out(&self, a: u8) -> u64
-        requires { (1 ≤ a) × ((a ≤ 8) × (SoundAuction (auction_at self.now a))) }
-        ensures { result ≡ bids_left_out (auction_at self.now a) }
+    pub fn bids_left_out(&self, a: AuctionNumber) -> u64
+        requires { SoundAuction (auction_at self.now a.number) }
+        ensures { result ≡ bids_left_out (auction_at self.now a.number) }
     {
-        self.auctions[a as usize - 1].bids_left_out()
+        self.auction(a).bids_left_out()
     }
 }

@@ -17,4 +17,4 @@ mod views;
 
 pub use auctions::{Auction, Direction, Stage};
 pub use ledgers::Ledger;
-pub use stages::Turn;
+pub use stages::{Turn, WrongStage};

@@ -6,43 +6,47 @@ ghost use Rattle.ledger.specs.Limits.{held_sums, overdue_by, owes};
 ghost use Rattle.ledger.specs.Sound.{Sound};
 
 use super::ledgers::Ledger;
+use numbering::Participant;
 
 impl Ledger {
     // The dues not yet invoiced and the open invoices of a participant.
-    pub fn owes(&self, p: u8) -> u64
-        requires { (Sound self.now) × ((1 ≤ p) × (p ≤ 12)) }
-        ensures value { result ≡ owes self.now p }
+    #[tactic(auto, using(crate::proofs::Within::owes_few))]
+    pub fn owes(&self, p: Participant) -> u64
+        requires { Sound self.now }
+        ensures value { result ≡ owes self.now p.number }
         ensures within { result ≤ 7680000000000 }
     {
-        self.accounts[p as usize - 1].owed()
+        self.account(p).owed()
     }
 
     // What is open of a participant's invoices.
-    pub fn still_open(&self, p: u8) -> u64
-        requires { (Sound self.now) × ((1 ≤ p) × (p ≤ 12)) }
-        ensures { result ≡ still_open (account_at self.now p) }
+    #[tactic(auto, using(crate::proofs::Within::owes_few))]
+    pub fn still_open(&self, p: Participant) -> u64
+        requires { Sound self.now }
+        ensures { result ≡ still_open (account_at self.now p.number) }
     {
-        self.accounts[p as usize - 1].still_open()
+        self.account(p).still_open()
     }
 
     // What is overdue of a participant today.
-    pub fn overdue(&self, p: u8) -> u64
-        requires { (Sound self.now) × ((1 ≤ p) × (p ≤ 12)) }
-        ensures { result ≡ overdue_by self.now p }
+    #[tactic(auto, using(crate::proofs::Within::owes_few))]
+    pub fn overdue(&self, p: Participant) -> u64
+        requires { Sound self.now }
+        ensures { result ≡ overdue_by self.now p.number }
     {
-        self.accounts[p as usize - 1].overdue(self.day)
+        self.account(p).overdue(self.day)
     }
 
     // All sums held for a participant.
-    pub fn held_sums(&self, p: u8) -> u64
-        requires { (Sound self.now) × ((1 ≤ p) × (p ≤ 12)) }
-        ensures value { result ≡ held_sums self.now p }
+    pub fn held_sums(&self, p: Participant) -> u64
+        requires { Sound self.now }
+        ensures value { result ≡ held_sums self.now p.number }
         ensures within { result ≤ 7680000000000 }
     {
-        let mut sum = 0;
-        for auction in &self.auctions {
-            sum += auction.sheets[p as usize - 1].held;
-        }
-        sum
+        let place = p.index();
+        self.auctions
+            .iter()
+            .map(|auction| auction.sheets[place].held)
+            .sum()
     }
 }

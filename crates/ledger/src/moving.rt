@@ -9,75 +9,59 @@ ghost use Rattle.ledger.specs.Sound.{Sound};
 
 use super::auctions::Auction;
 use super::ledgers::Ledger;
+use numbering::{AuctionNumber, Participant, Span};
 
 impl Auction {
     // Takes in MW that a participant returns out of another auction: they wait, and raise the capacity.
-    fn take_in(&mut self, p: u8, out: u8, mw: u16)
-        requires who { (1 ≤ p) × ((p ≤ 12) × ((1 ≤ out) × (out ≤ 8))) }
-        requires room { (self.old.capacity + mw ≤ 5000) × (holding (out - 1) (p - 1) self.old.returned + mw ≤ 65535) }
-        ensures { self.new ≡ with_returned (waiting_more (out - 1) (p - 1) mw self.old.returned) (self.old.capacity + mw) self.old }
+    fn take_in(&mut self, p: Participant, out: AuctionNumber, mw: u16)
+        requires room { self.old.capacity + mw ≤ 5000 }
+        requires waiting { holding (out.number - 1) (p.number - 1) self.old.returned + mw ≤ 65535 }
+        ensures { self.new ≡ with_returned (waiting_more (out.number - 1) (p.number - 1) mw self.old.returned) (self.old.capacity + mw) self.old }
     {
-        self.returned
-            .wait_more(out as usize - 1, p as usize - 1, mw);
+        self.returned.wait_more(out, p, mw);
         self.capacity += mw;
     }
 }
 
 impl Ledger {
     // Whether a participant holds so many MW of an auction in each hour of a span.
-    pub fn holds_through(&self, a: u8, p: u8, mw: u16, first: u8, hours: u8) -> bool
-        requires who { (1 ≤ a) × ((a ≤ 8) × ((1 ≤ p) × (p ≤ 12))) }
-        requires span { first + hours ≤ 192 }
-        ensures { result ≡ holds_through (a - 1) (p - 1) mw first hours self.now.rights }
+    pub fn holds_through(&self, p: Participant, a: AuctionNumber, span: Span, mw: u16) -> bool
+        ensures { result ≡ holds_through (a.number - 1) (p.number - 1) mw span.first span.hours self.now.rights }
     {
-        rights::holds_through(
-            &self.rights,
-            a as usize - 1,
-            p as usize - 1,
-            mw,
-            first as usize,
-            hours as usize,
-        )
+        rights::holds_through(&self.rights, a, p, mw, span)
     }
 
     // Moves MW of an auction from the giver to the taker in each hour of a span.
-    pub fn transfer(&mut self, giver: u8, taker: u8, a: u8, first: u8, hours: u8, mw: u16)
-        requires who { (1 ≤ giver) × ((giver ≤ 12) × ((1 ≤ taker) × (taker ≤ 12))) }
-        requires place { (1 ≤ a) × ((a ≤ 8) × (first + hours ≤ 192)) }
-        requires held { holds_through (a - 1) (giver - 1) mw first hours self.old.rights ≡ true }
+    pub fn transfer(
+        &mut self,
+        giver: Participant,
+        taker: Participant,
+        a: AuctionNumber,
+        span: Span,
+        mw: u16,
+    )
+        requires held { holds_through (a.number - 1) (giver.number - 1) mw span.first span.hours self.old.rights ≡ true }
         requires sound { Sound self.old }
-        ensures { self.new ≡ rights_transferred giver taker a first hours mw self.old }
+        ensures { self.new ≡ rights_transferred giver.number taker.number a.number span.first span.hours mw self.old }
     {
-        rights::transfer(
-            &mut self.rights,
-            a as usize - 1,
-            giver as usize - 1,
-            taker as usize - 1,
-            mw,
-            first as usize,
-            hours as usize,
-        );
+        rights::transfer(&mut self.rights, a, giver, taker, mw, span);
     }
 
     // Moves MW of one auction, in all hours of an open one, into that one's capacity.
-    pub fn return_rights(&mut self, p: u8, out: u8, into: u8, mw: u16)
-        requires who { (1 ≤ p) × ((p ≤ 12) × ((1 ≤ out) × (out ≤ 8))) }
-        requires place { (1 ≤ into) × ((into ≤ 8) × ((auction_at self.old into).capacity + mw ≤ 5000)) }
-        requires held { holds_through (out - 1) (p - 1) mw (auction_at self.old into).first (auction_at self.old into).product.hours self.old.rights ≡ true }
+    pub fn return_rights(
+        &mut self,
+        p: Participant,
+        out: AuctionNumber,
+        into: AuctionNumber,
+        mw: u16,
+    )
+        requires room { (auction_at self.old into.number).capacity + mw ≤ 5000 }
+        requires held { holds_through (out.number - 1) (p.number - 1) mw (auction_at self.old into.number).first (auction_at self.old into.number).product.hours self.old.rights ≡ true }
         requires sound { Sound self.old }
-        ensures { self.new ≡ rights_returned p out into mw self.old }
+        ensures { self.new ≡ rights_returned p.number out.number into.number mw self.old }
     {
-        let i = into as usize - 1;
-        let first = self.auctions[i].first as usize;
-        let hours = self.auctions[i].product.hours as usize;
-        rights::return_out(
-            &mut self.rights,
-            out as usize - 1,
-            p as usize - 1,
-            mw,
-            first,
-            hours,
-        );
-        self.auctions[i].take_in(p, out, mw);
+        let span = self.auction(into).span();
+        rights::return_out(&mut self.rights, out, p, mw, span);
+        self.auctions[into.index()].take_in(p, out, mw);
     }
 }

@@ -1,5 +1,5 @@
 -- Texts in the page.
-use Rattle.std.specs.Prelude.{ℕ, ◌+◌, List, [], ◌∷◌, ◌++◌, length, take, drop, codes, decimal}
+use Rattle.std.specs.Prelude.{ℕ, ◌+◌, List, ◌++◌, length, take, drop, codes, decimal, flat_map}
 
 -- the page with the text in it from `at`, and all its other bytes as they were
 unfoldable pub laid : ℕ → List ℕ → List ℕ → List ℕ
@@ -11,5 +11,4 @@ spaced_one n = codes " " ++ decimal n
 
 -- each number after one space
 abbrev pub spaced : List ℕ → List ℕ
-spaced [] = []
-spaced (n ∷ ns) = spaced_one n ++ spaced ns
+spaced ns = flat_map spaced_one ns

@@ -3,7 +3,9 @@
 #![tactic(auto)]
 
 mod page;
+mod text;
 mod writer;
 
 pub use page::put_text;
+pub use text::append;
 pub use writer::{Line, Numbers};

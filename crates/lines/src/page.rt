@@ -1,6 +1,6 @@
-// Lays texts and numbers into the page, and leaves all its other bytes as they were.
-ghost use Rattle.std.specs.Prelude.{◌≡◌, ◌+◌, ◌≤◌, length, decimal};
-ghost use Rattle.lines.specs.Page.{laid, spaced, spaced_one};
+// Lays a text into the page, and leaves all its other bytes as they were.
+ghost use Rattle.std.specs.Prelude.{◌≡◌, ◌+◌, ◌≤◌, length};
+ghost use Rattle.lines.specs.Page.{laid};
 
 // Writes a text from `at`, and answers the place behind it.
 pub fn put_text(page: &mut [u8], at: usize, text: &[u8]) -> usize
@@ -10,40 +10,5 @@ pub fn put_text(page: &mut [u8], at: usize, text: &[u8]) -> usize
 {
     let end = at + text.len();
     page[at..end].copy_from_slice(text);
-    end
-}
-
-// Writes a number in decimal, with no leading zeros.
-fn put_number(page: &mut [u8], at: usize, n: u64) -> usize
-    requires { at + length (decimal n) ≤ length page.old }
-    ensures after { page.new ≡ laid at (decimal n) page.old }
-    ensures value { result ≡ at + length (decimal n) }
-{
-    if n < 10 {
-        return put_text(page, at, &[b'0' + n as u8]);
-    }
-    let last = put_number(page, at, n / 10);
-    put_text(page, last, &[b'0' + (n % 10) as u8])
-}
-
-fn put_spaced(page: &mut [u8], at: usize, n: u64) -> usize
-    requires { at + length (spaced_one n) ≤ length page.old }
-    ensures after { page.new ≡ laid at (spaced_one n) page.old }
-    ensures value { result ≡ at + length (spaced_one n) }
-{
-    let at = put_text(page, at, b" ");
-    put_number(page, at, n)
-}
-
-// Writes each number after one space.
-pub(crate) fn put_numbers(page: &mut [u8], at: usize, numbers: &[u64]) -> usize
-    requires { at + length (spaced numbers.now) ≤ length page.old }
-    ensures after { page.new ≡ laid at (spaced numbers.now) page.old }
-    ensures value { result ≡ at + length (spaced numbers.now) }
-{
-    let mut end = at;
-    for n in numbers {
-        end = put_spaced(page, end, *n);
-    }
     end
 }

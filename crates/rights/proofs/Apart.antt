@@ -1,5 +1,6 @@
 -- What is done with the rights of one auction leaves those of the others as they are.
 use Rattle.std.proofs.Common.{◌≡◌, ℕ, zero, suc, ◌+◌, Bool, true, false, cond, leb, List, [], ◌∷◌, ◌++◌, map, get_or, take, drop, set, None, Option, sym, refl, ap, ◌∙◌, arith, take-append-drop}
+use Rattle.std.proofs.Math.ListN.{get_or-map}
 use Rattle.std.proofs.lemmas.List.{get_or-set_other, map-append}
 use Rattle.roll.specs.Rows.{each_with}
 use Rattle.rights.specs.Cuts.{curtailed, cut_hour, cut_row, limit_at, total_held}
@@ -21,13 +22,8 @@ over_map g f same k n xs =
     ∙ (sym (map-append g (part k n xs) (drop n (drop k xs))) ∙ ap (map g) (take-append-drop n (drop k xs)))))
     ∙ (sym (map-append g (take k xs) (drop k xs)) ∙ ap (map g) (take-append-drop k xs)))
 
-through : {X Y : Type 0} (g : X → Y) (xs : List X) (h : ℕ) (d : X) → get_or (map g xs) h (g d) ≡ g (get_or xs h d)
-through g [] h d = refl
-through g (x ∷ xs) zero d = refl
-through g (x ∷ xs) (suc h) d = through g xs h d
-
 pub over_same : {X Y : Type 0} (g : X → Y) (f : X → X) → ((x : X) → g (f x) ≡ g x) → (k n : ℕ) (xs : List X) (h : ℕ) (d : X) → g (get_or (over k n f xs) h d) ≡ g (get_or xs h d)
-over_same g f same k n xs h d = sym (through g (over k n f xs) h d) ∙ (ap (λ ys. get_or ys h (g d)) (over_map g f same k n xs) ∙ through g xs h d)
+over_same g f same k n xs h d = sym (get_or-map g (over k n f xs) h d) ∙ (ap (λ ys. get_or ys h (g d)) (over_map g f same k n xs) ∙ get_or-map g xs h d)
 
 -- another auction's row
 pub row_other : (a b : ℕ) (row : List ℕ) (hour : Hour) → (b ≡ a → ⊥) → row_at b (with_row a row hour) ≡ row_at b hour

@@ -1,12 +1,11 @@
 -- Numbers of a row within bounds.
-use Rattle.std.proofs.Common.{ℕ, zero, suc, ◌≤◌, List, [], ◌∷◌, get_or, set, replicate, arith}
+use Rattle.std.proofs.Common.{ℕ, zero, suc, ◌≤◌, List, [], ◌∷◌, get_or, set, replicate, refl, arith}
+use Rattle.roll.proofs.Changes.{at_in_sum}
 use Rattle.rights.specs.Bounds.{AtMost}
 use Rattle.rights.specs.Holdings.{mw_of}
 
 pub at_le_sum : (row : List ℕ) (p : ℕ) → get_or row p 0 ≤ mw_of row
-at_le_sum [] p = omega arith
-at_le_sum (mw ∷ row) zero = omega arith
-at_le_sum (mw ∷ row) (suc p) = omega (arith, at_le_sum row p)
+at_le_sum row p = at_in_sum (λ mw. mw) 0 refl row p
 
 -- one number replaced by a small one
 pub set_at_most : (m : ℕ) (xs : List ℕ) (i x : ℕ) → x ≤ m → AtMost m xs → AtMost m (set xs i x)

@@ -93,8 +93,5 @@ module _ (a : ℕ) (mw : List ℕ) (first hours : ℕ) (rights : List Hour) wher
       let same : (hour : Hour) → mw_of (row_at b (with_row a mw hour)) ≡ mw_of (row_at b hour) = λ hour. ap mw_of (get_or-set_other hour.rows a b mw [] ne) in
       omega (arith, over_up (λ hour. mw_of (row_at b hour)) (with_row a mw) (λ _. true) 0 (λ hour k. omega (arith, same hour)) first hours rights no_hour h (all_any (part first hours rights)))
 
-  pub awarded_out : (b h : ℕ) → (h < first) ⊎ (first + hours ≤ h) → mw_at b h (awarded a mw first hours rights) ≡ mw_at b h rights
-  awarded_out b h o = ap (λ hour. mw_of (row_at b hour)) (over_out (with_row a mw) first hours rights no_hour h o)
-
   pub awarded_all : all_mw (awarded a mw first hours rights) ≤ all_mw rights + hours * mw_of mw
   awarded_all = over_sum_up hour_mw (with_row a mw) (λ _. true) (mw_of mw) (λ hour k. hour_up a mw hour (mw_of mw) (omega arith)) first hours rights (all_any (part first hours rights))

@@ -1,8 +1,9 @@
 -- Holdings, transfers of them, and what an award brings. Auctions and participants go by place: 0 for number 1.
 use Rattle.std.specs.Prelude.{ℕ, ◌+◌, ◌-◌, Bool, List, [], replicate, nat_le, slice_index, slice_index_or, slice_set}
+use Rattle.std.specs.List.{list_all}
 use Rattle.roll.specs.Sums.{sum_of}
 use Rattle.rights.specs.declared.hours.Hour.{Hour}
-use Rattle.rights.specs.Spans.{all_of, part, over}
+use Rattle.rights.specs.Spans.{part, over}
 
 abbrev pub no_hour : Hour
 no_hour = record { rows = [] }
@@ -31,7 +32,7 @@ abbrev pub holds : ℕ → ℕ → ℕ → Hour → Bool
 holds a p mw hour = nat_le mw (holding a p hour)
 
 abbrev pub holds_through : ℕ → ℕ → ℕ → ℕ → ℕ → List Hour → Bool
-holds_through a p mw first hours rights = all_of (holds a p mw) (part first hours rights)
+holds_through a p mw first hours rights = list_all (holds a p mw) (part first hours rights)
 
 -- a participant holds fewer MW, or more
 abbrev pub fewer : ℕ → ℕ → List ℕ → List ℕ

@@ -1,10 +1,5 @@
 -- Changes in a span of hours.
-use Rattle.std.specs.Prelude.{ℕ, Bool, true, ◌&&◌, List, [], ◌∷◌, ◌++◌, map, take, drop}
-
--- whether all records of a list pass a test
-abbrev pub all_of : {X : Type 0} → (X → Bool) → List X → Bool
-all_of ok [] = true
-all_of ok (x ∷ xs) = ok x && all_of ok xs
+use Rattle.std.specs.Prelude.{ℕ, List, ◌++◌, map, take, drop}
 
 -- n records from place k on, and a change of each of them
 abbrev pub part : {X : Type 0} → ℕ → ℕ → List X → List X

@@ -1,21 +1,20 @@
 // What an award brings to the holdings.
-ghost use Rattle.std.specs.Prelude.{◌≡◌, ◌+◌, ◌<◌, ◌≤◌};
+ghost use Rattle.std.specs.Prelude.{◌≡◌, ◌-◌};
 ghost use Rattle.rights.specs.Holdings.{awarded};
 
-use super::hours::{HOURS, Hour, PARTICIPANTS};
+use super::hours::Hour;
+use numbering::{AuctionNumber, HOURS, PARTICIPANTS, Span};
 
 // The MW that an award gives to each participant are held in each hour.
 pub fn hold_awarded(
     rights: &mut [Hour; HOURS],
-    a: usize,
+    auction: AuctionNumber,
     mw: &[u16; PARTICIPANTS],
-    first: usize,
-    hours: usize,
+    span: Span,
 )
-    requires { (a < 8) × (first + hours ≤ 192) }
-    ensures { rights.new ≡ awarded a mw.now first hours rights.old }
+    ensures { rights.new ≡ awarded (auction.number - 1) mw.now span.first span.hours rights.old }
 {
-    for h in first..first + hours {
-        rights[h].hold(a, mw);
+    for hour in &mut rights[span.first..span.end()] {
+        hour.hold(auction, mw);
     }
 }

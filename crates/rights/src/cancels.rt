@@ -5,15 +5,16 @@ ghost use Rattle.rights.specs.Bounds.{Fits, RoomFor};
 ghost use Rattle.rights.specs.Holdings.{mw_of};
 ghost use Rattle.rights.specs.Returns.{restored, given_back};
 
-use super::hours::{AUCTIONS, HOURS, Hour, PARTICIPANTS};
+use super::hours::Hour;
+use numbering::{HOURS, PARTICIPANTS, Span};
 
 // Adds what left one auction's holdings to them again, in one hour.
 fn restore_row(row: &mut [u16; PARTICIPANTS], back: &[u16; PARTICIPANTS])
     requires { mw_of row.old + mw_of back.now ≤ 5000 }
-    ensures { row.new ≡ each_with (λ back mw. mw + back) back.entry.now row.old }
+    ensures { row.new ≡ each_with (λ more mw. mw + more) back.now row.old }
 {
-    for p in 0..PARTICIPANTS {
-        row[p] += back[p];
+    for (p, mw) in row.iter_mut().enumerate() {
+        *mw += back[p];
     }
 }
 
@@ -22,18 +23,17 @@ fn restore_hour(hour: &mut Hour, waiting: &Hour)
     requires { Fits waiting.now hour.old }
     ensures { hour.new ≡ restored waiting.now hour.old }
 {
-    for a in 0..AUCTIONS {
-        restore_row(&mut hour.rows[a], &waiting.rows[a]);
+    for (a, row) in hour.rows.iter_mut().enumerate() {
+        restore_row(row, &waiting.rows[a]);
     }
 }
 
 // Gives all that waits back to the holdings that it left, in each hour.
-pub fn give_back(rights: &mut [Hour; HOURS], waiting: &Hour, first: usize, hours: usize)
-    requires span { first + hours ≤ 192 }
-    requires room { RoomFor waiting.now first hours rights.old }
-    ensures { rights.new ≡ given_back waiting.now first hours rights.old }
+pub fn give_back(rights: &mut [Hour; HOURS], waiting: &Hour, span: Span)
+    requires room { RoomFor waiting.now span.first span.hours rights.old }
+    ensures { rights.new ≡ given_back waiting.now span.first span.hours rights.old }
 {
-    for h in first..first + hours {
-        restore_hour(&mut rights[h], waiting);
+    for hour in &mut rights[span.first..span.end()] {
+        restore_hour(hour, waiting);
     }
 }

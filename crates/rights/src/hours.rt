@@ -1,17 +1,12 @@
 // The MW held in one hour.
-ghost use Rattle.std.specs.Prelude.{◌≡◌, ◌+◌, ◌<◌, ◌≤◌};
+ghost use Rattle.std.specs.Prelude.{◌≡◌, ◌+◌, ◌-◌, ◌≤◌};
 ghost use Rattle.rights.specs.Holdings.{nothing, holding, holds, with_row};
 ghost use Rattle.rights.specs.Returns.{taken, waiting_more};
 
-// Participants 1 to 12, auctions 1 to 8 and delivery hours 0 to 191: each list goes from the first on.
-pub const PARTICIPANTS: usize = 12;
-
-pub const AUCTIONS: usize = 8;
-
-pub const HOURS: usize = 192;
+use numbering::{AUCTIONS, AuctionNumber, PARTICIPANTS, Participant};
 
 // By auction and participant. (A row of rows of rows is built only through a struct.)
-#[derive(Clone, Copy)]
+#[derive(Clone, Copy, PartialEq, Eq, Debug)]
 pub struct Hour {
     pub rows: [[u16; PARTICIPANTS]; AUCTIONS],
 }
@@ -27,43 +22,40 @@ impl Hour {
     }
 
     // What a participant holds of an auction.
-    pub fn holding(&self, a: usize, p: usize) -> u16
-        requires { (a < 8) × (p < 12) }
-        ensures { result ≡ holding a p self.now }
+    pub fn holding(&self, auction: AuctionNumber, holder: Participant) -> u16
+        ensures { result ≡ holding (auction.number - 1) (holder.number - 1) self.now }
     {
-        let row = &self.rows[a];
-        row[p]
+        let row = &self.rows[auction.index()];
+        row[holder.index()]
     }
 
     // Whether it holds as many MW.
-    pub(crate) fn holds(&self, a: usize, p: usize, mw: u16) -> bool
-        requires { (a < 8) × (p < 12) }
-        ensures { result ≡ holds a p mw self.now }
+    pub(crate) fn holds(&self, auction: AuctionNumber, holder: Participant, mw: u16) -> bool
+        ensures { result ≡ holds (auction.number - 1) (holder.number - 1) mw self.now }
     {
-        self.holding(a, p) >= mw
+        self.holding(auction, holder) >= mw
     }
 
     // Holds what an award gives to each participant.
-    pub(crate) fn hold(&mut self, a: usize, mw: &[u16; PARTICIPANTS])
-        requires { a < 8 }
-        ensures { self.new ≡ with_row a mw.now self.old }
+    pub(crate) fn hold(&mut self, auction: AuctionNumber, mw: &[u16; PARTICIPANTS])
+        ensures { self.new ≡ with_row (auction.number - 1) mw.now self.old }
     {
-        self.rows[a] = *mw;
+        self.rows[auction.index()] = *mw;
     }
 
     // Takes MW out of a participant's holding.
-    pub(crate) fn take(&mut self, a: usize, p: usize, mw: u16)
-        requires { (a < 8) × ((p < 12) × (mw ≤ holding a p self.old)) }
-        ensures { self.new ≡ taken a p mw self.old }
+    pub(crate) fn take(&mut self, auction: AuctionNumber, holder: Participant, mw: u16)
+        requires { mw ≤ holding (auction.number - 1) (holder.number - 1) self.old }
+        ensures { self.new ≡ taken (auction.number - 1) (holder.number - 1) mw self.old }
     {
-        self.rows[a][p] -= mw;
+        self.rows[auction.index()][holder.index()] -= mw;
     }
 
     // Lets MW that a participant returned out of an auction wait, where this is what waits in the auction entered.
-    pub fn wait_more(&mut self, a: usize, p: usize, mw: u16)
-        requires { (a < 8) × ((p < 12) × (holding a p self.old + mw ≤ 65535)) }
-        ensures { self.new ≡ waiting_more a p mw self.old }
+    pub fn wait_more(&mut self, auction: AuctionNumber, holder: Participant, mw: u16)
+        requires { holding (auction.number - 1) (holder.number - 1) self.old + mw ≤ 65535 }
+        ensures { self.new ≡ waiting_more (auction.number - 1) (holder.number - 1) mw self.old }
     {
-        self.rows[a][p] += mw;
+        self.rows[auction.index()][holder.index()] += mw;
     }
 }

@@ -11,8 +11,9 @@ mod transfers;
 
 pub use awards::hold_awarded;
 pub use cancels::give_back;
-pub use cuts::{LIMIT_BYTES, curtail, cut_hour, worked_by_hand};
-pub use hours::{AUCTIONS, HOURS, Hour, PARTICIPANTS};
+pub use cuts::{CUT_HOURS, LIMIT_BYTES, curtail, cut_hour, worked_by_hand};
+pub use hours::Hour;
+pub use numbering::{AUCTIONS, HOURS, PARTICIPANTS};
 pub use returns::{return_out, waits};
 pub use transfers::{holds_through, transfer};
 

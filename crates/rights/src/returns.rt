@@ -1,39 +1,37 @@
 // Rights that are returned: they leave the holdings and wait in the auction that they enter.
-ghost use Rattle.std.specs.Prelude.{◌≡◌, ℕ, ◌+◌, ◌<◌, ◌≤◌, true, replicate};
+ghost use Rattle.std.specs.Prelude.{◌≡◌, ℕ, ◌+◌, ◌-◌, true, replicate};
 ghost use Rattle.roll.specs.Rows.{each_with};
 ghost use Rattle.rights.specs.Bounds.{AtMost};
 ghost use Rattle.rights.specs.Holdings.{holds_through};
 ghost use Rattle.rights.specs.Returns.{returned, waits_of};
 
-use super::hours::{HOURS, Hour, PARTICIPANTS};
+use super::hours::Hour;
+use numbering::{AuctionNumber, HOURS, PARTICIPANTS, Participant, Span};
 
 // Takes a participant's MW of one auction out of its holdings in each hour.
 pub fn return_out(
     rights: &mut [Hour; HOURS],
-    a: usize,
-    p: usize,
+    auction: AuctionNumber,
+    holder: Participant,
     mw: u16,
-    first: usize,
-    hours: usize,
+    span: Span,
 )
-    requires who { (a < 8) × (p < 12) }
-    requires span { first + hours ≤ 192 }
-    requires held { holds_through a p mw first hours rights.old ≡ true }
-    ensures { rights.new ≡ returned a p mw first hours rights.old }
+    requires held { holds_through (auction.number - 1) (holder.number - 1) mw span.first span.hours rights.old ≡ true }
+    ensures { rights.new ≡ returned (auction.number - 1) (holder.number - 1) mw span.first span.hours rights.old }
 {
-    for h in first..first + hours {
-        rights[h].take(a, p, mw);
+    for hour in &mut rights[span.first..span.end()] {
+        hour.take(auction, holder, mw);
     }
 }
 
-// Adds what left one auction to what each participant has waiting.
+// Adds what left one auction to what each participant has waiting. (Sums over auctions are wider than the holdings.)
 fn add_row(sums: &mut [u32; PARTICIPANTS], row: &[u16; PARTICIPANTS])
     requires { AtMost 4294000000 sums.old }
     ensures value { sums.new ≡ each_with (λ mw sum. sum + mw) row.now sums.old }
     ensures within { (m : ℕ) → AtMost m sums.old → AtMost (m + 65535) sums.new }
 {
-    for (p, mw) in row.iter().enumerate() {
-        sums[p] += u32::from(*mw);
+    for (p, sum) in sums.iter_mut().enumerate() {
+        *sum += u32::from(row[p]);
     }
 }
 

@@ -1,5 +1,6 @@
 // Examples of rights.
 use super::*;
+use numbering::{AuctionNumber, Participant, Span};
 
 // Holdings of 30 and 40 MW, priced 100, after a cut to the limit: the MW lost, the holdings and the claims.
 fn cut_two(limit: u16) -> (u32, [u16; 2], [u64; 2]) {
@@ -10,11 +11,10 @@ fn cut_two(limit: u16) -> (u32, [u16; 2], [u64; 2]) {
     let mut prices = [None; AUCTIONS];
     prices[0] = Some(100);
     let lost = cut_hour(&mut hour, &mut claims, &prices, limit);
-    (
-        lost,
-        [hour.holding(0, 0), hour.holding(0, 1)],
-        [claims[0], claims[1]],
-    )
+    let auction = AuctionNumber { number: 1 };
+    let holders = [Participant { number: 1 }, Participant { number: 2 }];
+    let held = holders.map(|holder| hour.holding(auction, holder));
+    (lost, held, [claims[0], claims[1]])
 }
 
 fn nothing_held() -> [Hour; HOURS] {
@@ -32,11 +32,14 @@ fn an_award_is_held_in_its_hours(rt: HostRuntime) {
     let mut rights = nothing_held();
     let mut mw = [0; PARTICIPANTS];
     mw[4] = 30;
-    hold_awarded(&mut rights, 2, &mw, 3, 2);
-    assert!(rt; holds_through(&rights, 2, 4, 30, 3, 2));
-    assert!(rt; !holds_through(&rights, 2, 4, 31, 3, 2));
-    assert!(rt; !holds_through(&rights, 2, 4, 30, 3, 3));
-    assert!(rt; !holds_through(&rights, 1, 4, 30, 3, 2));
+    let auction = AuctionNumber { number: 3 };
+    let holder = Participant { number: 5 };
+    let span = Span { first: 3, hours: 2 };
+    hold_awarded(&mut rights, auction, &mw, span);
+    assert!(rt; holds_through(&rights, auction, holder, 30, span));
+    assert!(rt; !holds_through(&rights, auction, holder, 31, span));
+    assert!(rt; !holds_through(&rights, auction, holder, 30, Span { first: 3, hours: 3 }));
+    assert!(rt; !holds_through(&rights, AuctionNumber { number: 2 }, holder, 30, span));
 }
 
 #[test]
@@ -44,14 +47,20 @@ fn returned_rights_leave_and_wait(rt: HostRuntime) {
     let mut rights = nothing_held();
     let mut mw = [0; PARTICIPANTS];
     mw[4] = 30;
-    hold_awarded(&mut rights, 2, &mw, 3, 2);
+    let auction = AuctionNumber { number: 3 };
+    let holder = Participant { number: 5 };
+    hold_awarded(&mut rights, auction, &mw, Span { first: 3, hours: 2 });
     let mut waiting = Hour::empty();
-    if holds_through(&rights, 2, 4, 12, 4, 1) {
-        return_out(&mut rights, 2, 4, 12, 4, 1);
-        waiting.wait_more(2, 4, 12);
+    let last = Span { first: 4, hours: 1 };
+    if holds_through(&rights, auction, holder, 12, last) {
+        return_out(&mut rights, auction, holder, 12, last);
+        waiting.wait_more(auction, holder, 12);
     }
     assert_eq!(rt;
-        [rights[3].holding(2, 4), rights[4].holding(2, 4)],
+        [
+            rights[3].holding(auction, holder),
+            rights[4].holding(auction, holder)
+        ],
         [30, 18]
     );
     assert_eq!(rt; waits(&waiting), [0, 0, 0, 0, 12, 0, 0, 0, 0, 0, 0, 0]);

@@ -1,4 +1,5 @@
 pub mod Behind
+pub mod Chains
 pub mod Changes
 pub mod Clear
 pub mod InPlace

@@ -1,8 +1,9 @@
 -- What the moves of a roll do to its row of places: over any records.
-use Rattle.std.proofs.Common.{◌≡◌, ℕ, ◌+◌, ◌-◌, ◌<◌, ◌≤◌, Bool, List, [], ◌∷◌, ◌++◌, length, get_or, take, drop, set, sym, refl, ap, ◌∙◌, arith, length-append, length-drop}
+use Rattle.std.proofs.Common.{◌≡◌, ℕ, ◌+◌, ◌-◌, ◌<◌, ◌≤◌, Bool, List, [], ◌∷◌, ◌++◌, length, take, drop, set, sym, refl, ap, ◌∙◌, arith, length-append, length-drop}
 use borrow.Rule.Slice.PartMut.{put_mid}
-use Rattle.std.proofs.lemmas.List.{append_assoc, append-nil, drop_all, drop-append-le, drop_at, drop-drop, drop_more, drop-set-lt, get_or-append_right, get_or-drop, length_push, length-take, set_at, take_at, take_more, take_more_set, take_rest, take-set-le, take-take}
+use Rattle.std.proofs.lemmas.List.{append_assoc, append-nil, drop_all, drop-append-le, drop_at, drop-drop, drop-set-lt, drop-take, length_push, length-take, take_at, take_more_set, take_rest, take-set-le, take-take}
 use Rattle.std.proofs.lemmas.Slice.{between_is, drop-append-drop}
+use Rattle.std.specs.List.{copy_within}
 use Rattle.roll.specs.Rolls.{behind, inserted, laid}
 use Rattle.roll.proofs.Behind.{behind_within}
 
@@ -17,33 +18,14 @@ laid_room xs p q e = omega (arith, ap length e, length-append xs (drop (length x
 pub rest_front : {X : Type 0} (p q : List X) (n gone : ℕ) → n ≤ length p → q ≡ laid (drop gone (take n p)) p → take (n - gone) q ≡ drop gone (take n p)
 rest_front p q n gone l e = laid_front (drop gone (take n p)) p q (n - gone) (omega (arith, length-drop gone (take n p), length-take n p)) e
 
--- the moves of close_up: none yet, one more, all
-pub close_none : {X : Type 0} (p : List X) (gone : ℕ) → p ≡ drop gone (take gone p) ++ drop (gone - gone) p
-close_none p gone =
-    let a : length (take gone p) ≤ gone = omega (arith, length-take gone p) in
-    let b : gone - gone ≡ 0 = omega arith in
-    sym (ap (λ z. z ++ drop (gone - gone) p) (drop_all gone (take gone p) a) ∙ ap (λ k. drop k p) b)
-
-pub close_more : {X : Type 0} (p q : List X) (gone k : ℕ) (y : X) → gone ≤ k → k < length p → y ≡ get_or q k y → q ≡ drop gone (take k p) ++ drop (k - gone) p → set q (k - gone) y ≡ drop gone (take (k + 1) p) ++ drop (k + 1 - gone) p
-close_more p q gone k y low l read e =
-    let moved = drop gone (take k p) in
-    let m = k - gone in
-    let t : length (take k p) ≡ k = omega (arith, length-take k p) in
-    let n : length moved ≡ m = omega (arith, length-drop gone (take k p)) in
-    let g : gone ≤ length (take k p) = omega arith in
-    let a : m ≤ k = omega arith in
-    let b : m < length p = omega arith in
-    let s : m + (k - m) ≡ k = omega arith in
-    let u : m + 1 ≡ k + 1 - gone = omega arith in
-    let here : y ≡ get_or p k y = read ∙ ap (λ z. get_or z k y) e ∙ get_or-append_right moved (drop m p) m k y n a ∙ get_or-drop m p (k - m) y ∙ ap (λ z. get_or p z y) s in
-    let lhs : set q m y ≡ moved ++ y ∷ drop (m + 1) p = ap (λ z. set z m y) (e ∙ ap (λ z. moved ++ z) (drop_more p m y b)) ∙ set_at moved (get_or p m y) (drop (m + 1) p) y m n in
-    let rhs : drop gone (take (k + 1) p) ≡ moved ++ y ∷ [] = ap (drop gone) (take_more p k y l ∙ ap (λ z. take k p ++ z ∷ []) (sym here)) ∙ drop-append-le gone (take k p) (y ∷ []) g in
-    lhs ∙ ap (λ z. moved ++ y ∷ drop z p) u ∙ sym (append_assoc moved (y ∷ []) (drop (k + 1 - gone) p)) ∙ ap (λ z. z ++ drop (k + 1 - gone) p) (sym rhs)
-
-pub close_all : {X : Type 0} (p q : List X) (gone n k : ℕ) → k ≡ n → n ≤ length p → q ≡ drop gone (take k p) ++ drop (k - gone) p → q ≡ laid (drop gone (take n p)) p
-close_all p q gone n k e h i =
-    let m : k - gone ≡ length (drop gone (take n p)) = omega (arith, length-drop gone (take n p), length-take n p) in
-    i ∙ ap (λ z. drop gone (take k p) ++ drop z p) m ∙ ap (λ z. drop gone (take z p) ++ drop (length (drop gone (take n p))) p) e
+-- the records behind the first `gone` of n, copied to the front
+pub close_front : {X : Type 0} (p : List X) (gone n : ℕ) → gone ≤ n → n ≤ length p → copy_within p gone n 0 ≡ laid (drop gone (take n p)) p
+close_front p gone n low high =
+    let m = n - gone in
+    let k : gone + m ≡ n = omega arith in
+    let moved : take m (drop gone p) ≡ drop gone (take n p) = sym (drop-take gone m p) ∙ ap (λ z. drop gone (take z p)) k in
+    let size : 0 + m ≡ length (drop gone (take n p)) = omega (arith, length-drop gone (take n p), length-take n p) in
+    ap (λ z. z ++ drop (0 + m) p) moved ∙ ap (λ z. drop gone (take n p) ++ drop z p) size
 
 module _ {X : Type 0} (first : X → X → Bool) (x : X) where
   pub length_inserted : (ys : List X) → length (inserted first x ys) ≡ length ys + 1

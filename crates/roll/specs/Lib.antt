@@ -3,3 +3,4 @@ pub mod Sums
 pub mod Rolls
 pub mod Spending
 pub mod Views
+pub mod Tests

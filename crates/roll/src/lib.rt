@@ -7,9 +7,9 @@ mod record;
 mod rolls;
 mod spend;
 
-pub use places::{insert_in, place_of};
+pub use places::{insert_in, place_behind, place_of};
 pub use record::{Ranked, Spendable};
-pub use rolls::Roll;
+pub use rolls::{Full, Roll};
 pub use spend::{left_over, spend_in};
 
 #[cfg(test)]

@@ -1,12 +1,17 @@
 // The roll itself: records in the front of the places that an owner lends.
 ghost use Rattle.std.specs.Prelude.{◌≡◌, ℕ};
 
-// The first `len` places hold records, the others are free.
+// The first `len` places hold records, the others are free. That `len` fits the places is asked by the calls that need
+// it: as a fact of the type, `over` would ask it of every lender.
 #[derive(Drop)]
 pub struct Roll<'a, T> {
     pub(crate) places: &'a mut [T],
     pub(crate) len: usize,
 }
+
+// No place of a roll is free.
+#[derive(Clone, Copy, PartialEq, Eq, Debug)]
+pub struct Full;
 
 impl<'a, T> Roll<'a, T> {
     // A roll in lent places, of which the first `len` hold records.

@@ -13,11 +13,9 @@ use super::rolls::Roll;
 pub fn left_over<T: Spendable>(records: &[T], sum: u64) -> u64
     ensures { result ≡ sum - sum_of T.amount records.now }
 {
-    let mut left = sum;
-    for x in records {
-        left = left.saturating_sub(x.amount_of());
-    }
-    left
+    records
+        .iter()
+        .fold(sum, |left, x| left.saturating_sub(x.amount_of()))
 }
 
 // How many records a sum empties, and what is left of it then.

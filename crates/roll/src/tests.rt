@@ -53,11 +53,11 @@ fn numbered(number: u8, cents: u64) -> Slip {
 fn level_records_stand_in_order_of_arrival(rt: HostRuntime) {
     let mut places = [numbered(0, 0); 4];
     let mut roll = Roll::over(&mut places, 0);
-    assert!(rt; roll.insert(numbered(5, 1)));
-    assert!(rt; roll.insert(numbered(3, 2)));
-    assert!(rt; roll.insert(numbered(5, 3)));
-    assert!(rt; roll.insert(numbered(4, 4)));
-    assert!(rt; !roll.insert(numbered(1, 5)));
+    assert_eq!(rt; roll.insert(numbered(5, 1)), Ok(()));
+    assert_eq!(rt; roll.insert(numbered(3, 2)), Ok(()));
+    assert_eq!(rt; roll.insert(numbered(5, 3)), Ok(()));
+    assert_eq!(rt; roll.insert(numbered(4, 4)), Ok(()));
+    assert_eq!(rt; roll.insert(numbered(1, 5)), Err(Full));
     assert_eq!(rt; roll.len(), 4);
     assert_eq!(rt;
         [
@@ -78,7 +78,7 @@ fn a_sum_empties_the_first_then_the_next(rt: HostRuntime) {
     let mut roll = Roll::over(&mut places, 3);
     assert_eq!(rt; roll.spend(25), (25, 0));
     assert_eq!(rt; roll.len(), 2);
-    assert!(rt; roll.insert(numbered(2, 7)));
+    assert_eq!(rt; roll.insert(numbered(2, 7)), Ok(()));
     assert_eq!(rt; roll.spend(100), (42, 58));
     assert_eq!(rt; roll.len(), 0);
 }

@@ -1,19 +1,20 @@
 // Why a call of the book is refused.
 ghost use Rattle.std.specs.Prelude.{◌≡◌};
-ghost use Rattle.rules.specs.declared.refusals.Refusal.TheVariants.{Collateral};
+ghost use Rattle.rules.specs.declared.refusals.Refusal.TheVariants.{Collateral, Participant};
 ghost use Rattle.rules.specs.Refusals.{cause_of, layer_of, number_of};
 
 use collateral::kind::Cause;
+use numbering::NoParticipant;
 
 // Which part of the system refuses.
-#[derive(Clone, Copy)]
+#[derive(Clone, Copy, PartialEq, Eq, Debug)]
 pub enum Layer {
     Reader,
     Book,
     Collateral,
 }
 
-#[derive(Clone, Copy)]
+#[derive(Clone, Copy, PartialEq, Eq, Debug)]
 pub enum Refusal {
     Participant,
     Zone,
@@ -34,7 +35,7 @@ pub enum Refusal {
 }
 
 impl Refusal {
-    // The number of the table of refusals.
+    // The number of the table of refusals. (A match: a refusal that carries a cause has no plain discriminant.)
     pub fn number(&self) -> u8
         ensures { result ≡ number_of self.now }
     {
@@ -58,7 +59,7 @@ impl Refusal {
         }
     }
 
-    // The collateral's own number where it refused, else 0.
+    // The collateral's own number where it refused, else 0, as the table of refusals has it.
     pub fn cause(&self) -> u8
         ensures { result ≡ cause_of self.now }
     {
@@ -84,5 +85,14 @@ impl From<Cause> for Refusal {
 
     fn from(cause: Cause) -> Refusal {
         Refusal::Collateral(cause)
+    }
+}
+
+// A number that no participant has is the book's refusal 1.
+impl From<NoParticipant> for Refusal {
+    ghost from_gives = { λ _ r. r ≡ Participant };
+
+    fn from(_stranger: NoParticipant) -> Refusal {
+        Refusal::Participant
     }
 }

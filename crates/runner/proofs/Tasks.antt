@@ -19,7 +19,7 @@ use Rattle.runner.specs.Answers.{reply_shown, shown_of}
 use Rattle.runner.specs.Calls.{Performed, call_of}
 use Rattle.runner.specs.Found.{line_shown, outcome_shown}
 use Rattle.runner.specs.Running.{Answers, Runs, Task, Wrote, answer_line, as_read, is_refused, outcome_of, refusal_numbers, refuse, task, to_read}
-use Rattle.runner.specs.declared.outcomes.Outcome.{Outcome}
+use Rattle.runner.specs.Outcomes.{Outcome}
 use Rattle.runner.specs.declared.outcomes.Ran.{Ran}
 use Rattle.runner.specs.declared.outcomes.Refused.{Refused}
 use Rattle.runner.specs.declared.outcomes.Refused.TheVariants.{Book}
@@ -79,7 +79,7 @@ pub answered : (u : Understood) (page : List ℕ) (at : ℕ) (m : Moment) (page'
     page' ≡ laid at (text_of said) page → end ≡ at + length (text_of said) → Answers u page at m (record { outcome = o; place = u.next; at = end }) page' m'
 answered u page at m page' m' shown letter said o end el p es eo ep en =
     let text : List ℕ = answer_line (letter_of u.meaning) (call_of u.meaning) p.reply in
-    let t : text_of said ≡ text = ap text_of es ∙ (ap (λ l. text_of (line_shown l shown)) el ∙ same_line (letter_of u.meaning) (call_of u.meaning) shown p.reply p.shows) in
+    let t : text_of said ≡ text = ap text_of es ∙ (same_line letter (call_of u.meaning) shown p.reply p.shows ∙ ap (λ l. answer_line l (call_of u.meaning) p.reply) el) in
     let f : o ≡ outcome_of p.reply = eo ∙ same_outcome (call_of u.meaning) shown p.reply p.shows in
     let n : end ≡ at + length text = en ∙ ap (λ t. at + length t) t in
     record {

@@ -1,17 +1,16 @@
 -- Running the commands of an input one after another, and the credit law over such runs.
-use Rattle.std.specs.Prelude.{◌≡◌, ℕ, true, List}
+use Rattle.std.specs.Prelude.{◌≡◌, ℕ, true, List, Some, Ok}
 use Rattle.std.proofs.Common.{sym, subst}
 use Rattle.rules.specs.Law.{CreditLawOf, History, Participant, called}
 use Rattle.rules.specs.Moments.{Moment}
 use Rattle.runner.specs.Calls.{call_of}
 use Rattle.runner.specs.Outcomes.{goes_on}
 use Rattle.runner.specs.Running.{Runs, Task, finish, perform, refuse, task}
-use Rattle.runner.specs.declared.outcomes.Outcome.TheVariants.{Granted}
 use Rattle.runner.specs.declared.outcomes.Ran.{Ran}
 
 -- before the first command of a page
 abbrev pub begins_at : ℕ → Ran
-begins_at place = record { outcome = Granted; place = place; at = 0 }
+begins_at place = record { outcome = Some (Ok tt); place = place; at = 0 }
 
 -- what commands have come to that were run from a place in the input and the start of a page on, each where the one
 -- before it went on: the last outcome with the next places, the page, and what the book shows

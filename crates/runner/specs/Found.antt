@@ -8,10 +8,8 @@ use Rattle.lines.specs.declared.writer.Line.TheVariants.{Granted, Refused}
 use Rattle.lines.specs.declared.writer.Numbers.{Numbers}
 use Rattle.rules.specs.declared.refusals.Layer.{Layer}
 use Rattle.rules.specs.declared.refusals.Layer.TheVariants as layer
-use Rattle.runner.specs.declared.outcomes.Outcome.{Outcome}
-use Rattle.runner.specs.declared.outcomes.Outcome.TheVariants as outcome
 use Rattle.runner.specs.declared.outcomes.Refused as refused
-use Rattle.runner.specs.Outcomes.{cause_of, layer_of, number_of}
+use Rattle.runner.specs.Outcomes.{Outcome, cause_of, layer_of, number_of}
 use Rattle.runner.specs.Running.{Task, finish, perform, refuse}
 
 abbrev pub task_of : Result (Option Found) Unreadable → Task
@@ -30,5 +28,5 @@ line_shown letter (Ok n) = Granted letter n
 line_shown letter (Err e) = Refused letter (number_of e) (cause_shown (layer_of e) (cause_of e))
 
 abbrev pub outcome_shown : Result Numbers refused.Refused → Outcome
-outcome_shown (Ok n) = outcome.Granted
-outcome_shown (Err e) = outcome.Refused e
+outcome_shown (Ok n) = Some (Ok tt)
+outcome_shown (Err e) = Some (Err e)

@@ -1,12 +1,10 @@
 -- Number, cause and layer of a refusal, whoever refused; and where a run goes on.
-use Rattle.std.specs.Prelude.{ℕ, Bool, true, false}
+use Rattle.std.specs.Prelude.{ℕ, Bool, true, false, Some, None, Ok, Err, Option, Result}
 use Rattle.command.specs.Unreadable as reader
 use Rattle.command.specs.declared.unreadable.Unreadable.TheVariants.{UnknownLetter, CutShort, LongFile, PageEnd}
 use Rattle.rules.specs.Refusals as book
 use Rattle.rules.specs.declared.refusals.Layer.{Layer}
 use Rattle.rules.specs.declared.refusals.Layer.TheVariants as layer
-use Rattle.runner.specs.declared.outcomes.Outcome.{Outcome}
-use Rattle.runner.specs.declared.outcomes.Outcome.TheVariants.{Granted, Refused as refused, End}
 use Rattle.runner.specs.declared.outcomes.Refused.{Refused}
 use Rattle.runner.specs.declared.outcomes.Refused.TheVariants.{Reader, Book}
 
@@ -23,19 +21,23 @@ abbrev pub layer_of : Refused → Layer
 layer_of (Reader e) = layer.Reader
 layer_of (Book e) = book.layer_of e
 
+-- how a command was answered; nothing at the end of the input, where there is no command
+abbrev pub Outcome : Type 0
+Outcome = Option (Result (Unit {0}) Refused)
+
 -- after a call, granted or refused, the next command is run; the end and a refusal of the reader end the run
 abbrev pub goes_on : Outcome → Bool
-goes_on Granted = true
-goes_on (refused (Reader e)) = false
-goes_on (refused (Book e)) = true
-goes_on End = false
+goes_on (Some (Ok u)) = true
+goes_on (Some (Err (Reader e))) = false
+goes_on (Some (Err (Book e))) = true
+goes_on None = false
 
 -- the reader's refusal 44, by which a run goes on with a new page
 abbrev pub page_full : Outcome → Bool
-page_full Granted = false
-page_full (refused (Reader PageEnd)) = true
-page_full (refused (Reader UnknownLetter)) = false
-page_full (refused (Reader CutShort)) = false
-page_full (refused (Reader LongFile)) = false
-page_full (refused (Book e)) = false
-page_full End = false
+page_full (Some (Ok u)) = false
+page_full (Some (Err (Reader PageEnd))) = true
+page_full (Some (Err (Reader UnknownLetter))) = false
+page_full (Some (Err (Reader CutShort))) = false
+page_full (Some (Err (Reader LongFile))) = false
+page_full (Some (Err (Book e))) = false
+page_full None = false

@@ -15,8 +15,7 @@ use Rattle.rules.specs.Refusals.{cause_of, number_of}
 use Rattle.rules.specs.Steps.{Step}
 use Rattle.rules.specs.declared.refusals.Refusal.{Refusal}
 use Rattle.runner.specs.Calls.{call_of}
-use Rattle.runner.specs.declared.outcomes.Outcome.{Outcome}
-use Rattle.runner.specs.declared.outcomes.Outcome.TheVariants.{Granted, Refused, End}
+use Rattle.runner.specs.Outcomes.{Outcome}
 use Rattle.runner.specs.declared.outcomes.Ran.{Ran}
 use Rattle.runner.specs.declared.outcomes.Refused.TheVariants.{Reader, Book}
 
@@ -64,8 +63,8 @@ reader_line PageEnd place = []
 -- WHAT IT LEAVES
 
 abbrev pub outcome_of : {A : Type 0} → Result A Refusal → Outcome
-outcome_of (Ok v) = Granted
-outcome_of (Err e) = Refused (Book e)
+outcome_of (Ok v) = Some (Ok tt)
+outcome_of (Err e) = Some (Err (Book e))
 
 -- this outcome and these places; the page has the text from `at` on, and all its other bytes stay
 pub record Wrote (outcome : Outcome) (place : ℕ) (text page : List ℕ) (at : ℕ) (r : Ran) (page' : List ℕ) : Type 0 where
@@ -80,14 +79,14 @@ pub record Answers (u : Understood) (page : List ℕ) (at : ℕ) (m : Moment) (r
 
 -- a refusal of the reader and the end keep the place in the input, and leave the book alone
 abbrev pub Runs : Task → ℕ → List ℕ → ℕ → Moment → Ran → List ℕ → Moment → Type 0
-Runs (refuse e) place page at m r page' m' = Wrote (Refused (Reader e)) place (reader_line e place) page at r page' × (m' ≡ m)
-Runs finish place page at m r page' m' = Wrote End place [] page at r page' × (m' ≡ m)
+Runs (refuse e) place page at m r page' m' = Wrote (Some (Err (Reader e))) place (reader_line e place) page at r page' × (m' ≡ m)
+Runs finish place page at m r page' m' = Wrote None place [] page at r page' × (m' ≡ m)
 Runs (perform u) place page at m r page' m' = Answers u page at m r page' m'
 
 abbrev pub is_refused : Outcome → Bool
-is_refused Granted = false
-is_refused (Refused e) = true
-is_refused End = false
+is_refused (Some (Ok u)) = false
+is_refused (Some (Err e)) = true
+is_refused None = false
 
 -- a command that is understood ends behind its place, and within the input
 abbrev pub OnwardTo : Task → ℕ → List ℕ → Type 0

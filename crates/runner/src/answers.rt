@@ -8,7 +8,8 @@ use crate::outcomes::Refused;
 use lines::Numbers;
 use rules::{Clearing, Cut, Netting, Receipt, Refusal};
 
-// An answer of the book.
+// An answer of the book. (The three numbers differ only in their type; but an `impl` for all that convert to `u64` would
+// bar those of the records.)
 pub(crate) trait Answer: Sized {
     // The numbers that a line shows of it.
     ghost shows: { Self → List ℕ };

@@ -4,7 +4,7 @@ ghost use Rattle.book.specs.Books.{moment};
 ghost use Rattle.runner.specs.Files.{LawAfterFiles, LawAfterRuns, RanOn, RanPages};
 ghost use Rattle.runner.specs.Outcomes.{goes_on};
 
-use crate::outcomes::{Outcome, Ran};
+use crate::outcomes::Ran;
 use crate::running::{MOST_INPUT, run_one};
 use book::Book;
 use collateral::kind::Collateral;
@@ -20,7 +20,7 @@ pub fn run<C: Collateral>(book: &mut Book<C>, input: &[u8], place: usize, page: 
     ensures law { LawAfterRuns }
 {
     let mut ran = Ran {
-        outcome: Outcome::Granted,
+        outcome: Some(Ok(())),
         place,
         at: 0,
     };

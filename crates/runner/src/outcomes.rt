@@ -7,7 +7,7 @@ use command::Unreadable;
 use rules::{Layer, Refusal};
 
 // Who refused, and why: the reader, or the book, which may pass on a refusal of its collateral.
-#[derive(Clone, Copy)]
+#[derive(Clone, Copy, PartialEq, Eq, Debug)]
 pub enum Refused {
     Reader(Unreadable),
     Book(Refusal),
@@ -24,7 +24,7 @@ impl Refused {
         }
     }
 
-    // The collateral's own number where it refused, else 0.
+    // The collateral's own number where it refused, else 0, as the table of refusals has it.
     pub fn cause(self) -> u8
         ensures { result ≡ cause_of self }
     {
@@ -60,16 +60,11 @@ impl From<Refusal> for Refused {
     }
 }
 
-#[derive(Clone, Copy)]
-pub enum Outcome {
-    Granted,
-    Refused(Refused),
-    // There is no command at the end of the input.
-    End,
-}
+// How a command was answered; nothing at the end of the input, where there is no command.
+pub type Outcome = Option<Result<(), Refused>>;
 
 // What a command came to, and the next places in the input and in the page.
-#[derive(Clone, Copy)]
+#[derive(Clone, Copy, PartialEq, Eq, Debug)]
 pub struct Ran {
     pub outcome: Outcome,
     pub place: usize,
@@ -81,10 +76,7 @@ impl Ran {
     pub fn goes_on(self) -> bool
         ensures { result ≡ goes_on self.outcome }
     {
-        !matches!(
-            self.outcome,
-            Outcome::End | Outcome::Refused(Refused::Reader(_))
-        )
+        !matches!(self.outcome, None | Some(Err(Refused::Reader(_))))
     }
 
     // Whether the run stopped only because the page had no room for another line.
@@ -93,7 +85,7 @@ impl Ran {
     {
         matches!(
             self.outcome,
-            Outcome::Refused(Refused::Reader(Unreadable::PageEnd))
+            Some(Err(Refused::Reader(Unreadable::PageEnd)))
         )
     }
 }

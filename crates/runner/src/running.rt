@@ -40,10 +40,7 @@ fn next<'a>(input: &'a [u8], place: usize) -> Result<Option<Found<'a>>, Unreadab
     if input.len() > MOST_INPUT {
         return Err(Unreadable::LongFile);
     }
-    match command::read(input, place) {
-        None => Ok(None),
-        Some(found) => Ok(Some(found?)),
-    }
+    command::read(input, place).transpose()
 }
 
 // The line of a call: `ok` and its numbers, or `no` and those of the refusal, with the cause where the collateral refused.
@@ -67,10 +64,7 @@ fn answer_line(letter: u8, answer: Result<Numbers, Refused>) -> Line
 fn outcome(answer: Result<Numbers, Refused>) -> Outcome
     ensures { result ≡ outcome_shown answer }
 {
-    match answer {
-        Ok(_) => Outcome::Granted,
-        Err(refused) => Outcome::Refused(refused),
-    }
+    Some(answer.map(|_| ()))
 }
 
 // Says why the reader refused, where the page has room: a `?` line with the place of the letter.
@@ -95,7 +89,8 @@ fn refuse(page: &mut [u8], at: usize, why: Unreadable, place: usize) -> usize
     )
 }
 
-// Runs the command at a place of the input over the book, and writes its line into the page from `at`.
+// Runs the command at a place of the input over the book, and writes its line into the page from `at`. (An input with its
+// place and a page with its place are what the office's calls are stated by.)
 pub fn run_one<C: Collateral>(
     book: &mut Book<C>,
     input: &[u8],
@@ -109,14 +104,14 @@ pub fn run_one<C: Collateral>(
     ensures onward { goes_on result.outcome ≡ true → (place < result.place) × (result.place ≤ length input.now) }
 {
     if page.len().saturating_sub(at) < LINE_ROOM {
-        let outcome = Outcome::Refused(Refused::Reader(Unreadable::PageEnd));
+        let outcome = Some(Err(Refused::Reader(Unreadable::PageEnd)));
         return Ran { outcome, place, at };
     }
     let next = match next(input, place) {
         Ok(next) => next,
         Err(why) => {
             return Ran {
-                outcome: Outcome::Refused(Refused::Reader(why)),
+                outcome: Some(Err(Refused::Reader(why))),
                 place,
                 at: refuse(page, at, why, place),
             };
@@ -124,13 +119,13 @@ pub fn run_one<C: Collateral>(
     };
     let Some(found) = next else {
         return Ran {
-            outcome: Outcome::End,
+            outcome: None,
             place,
             at,
         };
     };
     let answer = perform(book, found.command);
-    let line = answer_line(found.command.letter(), answer);
+    let line = answer_line(u8::from(found.command.letter()), answer);
     Ran {
         outcome: outcome(answer),
         place: found.next,

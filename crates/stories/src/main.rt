@@ -5,8 +5,6 @@
 
 use anyhow::anyhow;
 use book::Book;
-use collateral::cash::Cash;
-use collateral::guarantees::Guarantees;
 use collateral::joined::Joined;
 use command_text::encode_line;
 use runner::run_file;
@@ -14,10 +12,7 @@ use std::io::{BufRead, BufReader};
 
 // Runs the commands of one story.
 fn tell(rt: &HostRuntime, input: &[u8]) -> anyhow::Result<()> {
-    let mut book = Book::new(Joined {
-        first: Cash::new(),
-        second: Guarantees::new(),
-    });
+    let mut book = Book::new(Joined::new());
     run_file(&mut book, input, &mut rt.stdout())?;
     Ok(())
 }
@@ -34,7 +29,7 @@ fn run(rt: &HostRuntime) -> anyhow::Result<()> {
             }
             [b'!', bytes @ ..] => story.extend_from_slice(bytes)?,
             text => match encode_line(text) {
-                Ok(packet) => story.extend_from_slice(&packet.bytes[0..packet.size])?,
+                Ok(command) => story.extend_from_slice(&command)?,
                 Err(_) => return Err(anyhow!("a line that is no command")),
             },
         }

@@ -1,81 +1,80 @@
--- Each command is written in one, two or three parts; what is written is its encoding.
-use Rattle.std.proofs.Common.{refl, ap, arith, rules}
-use Rattle.encoder.specs.Encoding.{encoding}
+-- Each command is written as its letter, its operands of one byte, and the wider ones; what is written is its encoding.
+use Rattle.std.proofs.Common.{[], ◌∷◌, sym, refl, ap, ◌∙◌, append-nil, rules}
 use Rattle.command.specs.Meaning.{meaning_of, adds, withdraws, opens, bids, seals, awards, cancels, transfers, gives_back, curtails, invoices, pays, draws, pays_out, moves_day}
-use Rattle.encoder.proofs.Written.{in_one, in_two, in_three}
+use Rattle.encoder.proofs.Written.{written}
 use Rattle.encoder.proofs.encode.Goals as goal
 
 pub returns-in-Add : goal.returns-in-Add
-unfolding encoding
 returns-in-Add c =
-    in_three c.args.command (adds c.in-Add.participant c.in-Add.kind c.in-Add.sum c.in-Add.last_day) _ _ _ _ _ _ _ _ _ _ _ _ (ap meaning_of c.in-Add.is) (search rules) c.to_be_bytes.ensures c.to_be_bytes-in-Add.ensures refl (omega arith) (omega arith) c.put_front-at.ensures.after c.put_front-at.ensures.value c.put_text-at.ensures.after c.put_text-at.ensures.value c.put_text.ensures.after c.put_text.ensures.value
+    let k = c.in-Add in
+    written c.args.command (adds k.participant k.kind k.sum k.last_day) _ (k.participant ∷ k.kind ∷ []) _ _ _ _ _ (ap meaning_of k.is) (c.from-letter.ensures ∙ c.letter.ensures) (search rules) c.to_be_bytes.ensures c.to_be_bytes-in-Add.ensures refl c.joined.ensures
 
 pub returns-in-Withdraw : goal.returns-in-Withdraw
-unfolding encoding
 returns-in-Withdraw c =
-    in_two c.args.command (withdraws c.in-Withdraw.participant c.in-Withdraw.sum) _ _ _ _ _ _ _ _ (ap meaning_of c.in-Withdraw.is) (search rules) c.to_be_bytes-in-Withdraw.ensures refl (omega arith) (omega arith) c.put_front-at-in-Withdraw.ensures.after c.put_front-at-in-Withdraw.ensures.value c.put_text-in-Withdraw.ensures.after c.put_text-in-Withdraw.ensures.value
+    let k = c.in-Withdraw in
+    written c.args.command (withdraws k.participant k.sum) _ (k.participant ∷ []) _ _ [] _ _ (ap meaning_of k.is) (c.from-letter.ensures ∙ c.letter.ensures) (search rules) c.to_be_bytes-in-Withdraw.ensures refl refl c.joined-in-Withdraw.ensures
 
 pub returns-in-Open : goal.returns-in-Open
-unfolding encoding
 returns-in-Open c =
-    in_two c.args.command (opens c.in-Open.from c.in-Open.to c.in-Open.first_hour c.in-Open.hours c.in-Open.capacity) _ _ _ _ _ _ _ _ (ap meaning_of c.in-Open.is) (search rules) c.to_be_bytes-in-Open.ensures refl (omega arith) (omega arith) c.put_front-at-in-Open.ensures.after c.put_front-at-in-Open.ensures.value c.put_text-in-Open.ensures.after c.put_text-in-Open.ensures.value
+    let k = c.in-Open in
+    written c.args.command (opens k.from k.to k.first_hour k.hours k.capacity) _ (k.from ∷ k.to ∷ k.first_hour ∷ k.hours ∷ []) _ _ [] _ _ (ap meaning_of k.is) (c.from-letter.ensures ∙ c.letter.ensures) (search rules) c.to_be_bytes-in-Open.ensures refl refl c.joined-in-Open.ensures
 
 pub returns-in-Bid : goal.returns-in-Bid
-unfolding encoding
 returns-in-Bid c =
-    in_three c.args.command (bids c.in-Bid.participant c.in-Bid.auction c.in-Bid.price c.in-Bid.mw) _ _ _ _ _ _ _ _ _ _ _ _ (ap meaning_of c.in-Bid.is) (search rules) c.to_be_bytes-in-Bid.ensures c.to_be_bytes-in-Bid-2.ensures refl (omega arith) (omega arith) c.put_front-at-in-Bid.ensures.after c.put_front-at-in-Bid.ensures.value c.put_text-at-in-Bid.ensures.after c.put_text-at-in-Bid.ensures.value c.put_text-in-Bid.ensures.after c.put_text-in-Bid.ensures.value
+    let k = c.in-Bid in
+    written c.args.command (bids k.participant k.auction k.price k.mw) _ (k.participant ∷ k.auction ∷ []) _ _ _ _ _ (ap meaning_of k.is) (c.from-letter.ensures ∙ c.letter.ensures) (search rules) c.to_be_bytes-in-Bid.ensures c.to_be_bytes-in-Bid-2.ensures refl c.joined-in-Bid.ensures
 
 pub returns-in-Seal : goal.returns-in-Seal
-unfolding encoding
 returns-in-Seal c =
-    in_one c.args.command (seals c.in-Seal.auction) _ _ _ _ (ap meaning_of c.in-Seal.is) (search rules) refl (omega arith) c.put_front.ensures.after c.put_front.ensures.value
+    let k = c.in-Seal in
+    written c.args.command (seals k.auction) _ (k.auction ∷ []) [] _ [] _ _ (ap meaning_of k.is) (c.from-letter.ensures ∙ c.letter.ensures) (search rules) refl refl refl c.joined-in-Seal.ensures
 
 pub returns-in-Award : goal.returns-in-Award
-unfolding encoding
 returns-in-Award c =
-    in_one c.args.command (awards c.in-Award.auction) _ _ _ _ (ap meaning_of c.in-Award.is) (search rules) refl (omega arith) c.put_front-in-Award.ensures.after c.put_front-in-Award.ensures.value
+    let k = c.in-Award in
+    written c.args.command (awards k.auction) _ (k.auction ∷ []) [] _ [] _ _ (ap meaning_of k.is) (c.from-letter.ensures ∙ c.letter.ensures) (search rules) refl refl refl c.joined-in-Award.ensures
 
 pub returns-in-Cancel : goal.returns-in-Cancel
-unfolding encoding
 returns-in-Cancel c =
-    in_one c.args.command (cancels c.in-Cancel.auction) _ _ _ _ (ap meaning_of c.in-Cancel.is) (search rules) refl (omega arith) c.put_front-in-Cancel.ensures.after c.put_front-in-Cancel.ensures.value
+    let k = c.in-Cancel in
+    written c.args.command (cancels k.auction) _ (k.auction ∷ []) [] _ [] _ _ (ap meaning_of k.is) (c.from-letter.ensures ∙ c.letter.ensures) (search rules) refl refl refl c.joined-in-Cancel.ensures
 
 pub returns-in-Transfer : goal.returns-in-Transfer
-unfolding encoding
 returns-in-Transfer c =
-    in_two c.args.command (transfers c.in-Transfer.giver c.in-Transfer.taker c.in-Transfer.auction c.in-Transfer.first_hour c.in-Transfer.hours c.in-Transfer.mw) _ _ _ _ _ _ _ _ (ap meaning_of c.in-Transfer.is) (search rules) c.to_be_bytes-in-Transfer.ensures refl (omega arith) (omega arith) c.put_front-at-in-Transfer.ensures.after c.put_front-at-in-Transfer.ensures.value c.put_text-in-Transfer.ensures.after c.put_text-in-Transfer.ensures.value
+    let k = c.in-Transfer in
+    written c.args.command (transfers k.giver k.taker k.auction k.first_hour k.hours k.mw) _ (k.giver ∷ k.taker ∷ k.auction ∷ k.first_hour ∷ k.hours ∷ []) _ _ [] _ _ (ap meaning_of k.is) (c.from-letter.ensures ∙ c.letter.ensures) (search rules) c.to_be_bytes-in-Transfer.ensures refl refl c.joined-in-Transfer.ensures
 
 pub returns-in-Return : goal.returns-in-Return
-unfolding encoding
 returns-in-Return c =
-    in_two c.args.command (gives_back c.in-Return.participant c.in-Return.out_of c.in-Return.into c.in-Return.mw) _ _ _ _ _ _ _ _ (ap meaning_of c.in-Return.is) (search rules) c.to_be_bytes-in-Return.ensures refl (omega arith) (omega arith) c.put_front-at-in-Return.ensures.after c.put_front-at-in-Return.ensures.value c.put_text-in-Return.ensures.after c.put_text-in-Return.ensures.value
+    let k = c.in-Return in
+    written c.args.command (gives_back k.participant k.out_of k.into k.mw) _ (k.participant ∷ k.out_of ∷ k.into ∷ []) _ _ [] _ _ (ap meaning_of k.is) (c.from-letter.ensures ∙ c.letter.ensures) (search rules) c.to_be_bytes-in-Return.ensures refl refl c.joined-in-Return.ensures
 
 pub returns-in-Curtail : goal.returns-in-Curtail
-unfolding encoding
 returns-in-Curtail c =
-    in_two c.args.command (curtails c.in-Curtail.from c.in-Curtail.to c.in-Curtail.first_hour c.in-Curtail.limits.now) _ _ _ _ _ _ _ _ (ap meaning_of c.in-Curtail.is) (search rules) refl refl (omega arith) (omega arith) c.put_front-at-in-Curtail.ensures.after c.put_front-at-in-Curtail.ensures.value c.put_text-in-Curtail.ensures.after c.put_text-in-Curtail.ensures.value
+    let k = c.in-Curtail in
+    written c.args.command (curtails k.from k.to k.first_hour k.limits.now) _ (k.from ∷ k.to ∷ k.first_hour ∷ []) k.limits.now _ [] _ _ (ap meaning_of k.is) (c.from-letter.ensures ∙ c.letter.ensures) (search rules) refl refl (sym (append-nil _)) c.joined-in-Curtail.ensures
 
 pub returns-in-Invoice : goal.returns-in-Invoice
-unfolding encoding
 returns-in-Invoice c =
-    in_one c.args.command (invoices c.in-Invoice.participant) _ _ _ _ (ap meaning_of c.in-Invoice.is) (search rules) refl (omega arith) c.put_front-in-Invoice.ensures.after c.put_front-in-Invoice.ensures.value
+    let k = c.in-Invoice in
+    written c.args.command (invoices k.participant) _ (k.participant ∷ []) [] _ [] _ _ (ap meaning_of k.is) (c.from-letter.ensures ∙ c.letter.ensures) (search rules) refl refl refl c.joined-in-Invoice.ensures
 
 pub returns-in-Payment : goal.returns-in-Payment
-unfolding encoding
 returns-in-Payment c =
-    in_two c.args.command (pays c.in-Payment.participant c.in-Payment.sum) _ _ _ _ _ _ _ _ (ap meaning_of c.in-Payment.is) (search rules) c.to_be_bytes-in-Payment.ensures refl (omega arith) (omega arith) c.put_front-at-in-Payment.ensures.after c.put_front-at-in-Payment.ensures.value c.put_text-in-Payment.ensures.after c.put_text-in-Payment.ensures.value
+    let k = c.in-Payment in
+    written c.args.command (pays k.participant k.sum) _ (k.participant ∷ []) _ _ [] _ _ (ap meaning_of k.is) (c.from-letter.ensures ∙ c.letter.ensures) (search rules) c.to_be_bytes-in-Payment.ensures refl refl c.joined-in-Payment.ensures
 
 pub returns-in-Draw : goal.returns-in-Draw
-unfolding encoding
 returns-in-Draw c =
-    in_one c.args.command (draws c.in-Draw.participant) _ _ _ _ (ap meaning_of c.in-Draw.is) (search rules) refl (omega arith) c.put_front-in-Draw.ensures.after c.put_front-in-Draw.ensures.value
+    let k = c.in-Draw in
+    written c.args.command (draws k.participant) _ (k.participant ∷ []) [] _ [] _ _ (ap meaning_of k.is) (c.from-letter.ensures ∙ c.letter.ensures) (search rules) refl refl refl c.joined-in-Draw.ensures
 
 pub returns-in-Payout : goal.returns-in-Payout
-unfolding encoding
 returns-in-Payout c =
-    in_one c.args.command (pays_out c.in-Payout.participant) _ _ _ _ (ap meaning_of c.in-Payout.is) (search rules) refl (omega arith) c.put_front-in-Payout.ensures.after c.put_front-in-Payout.ensures.value
+    let k = c.in-Payout in
+    written c.args.command (pays_out k.participant) _ (k.participant ∷ []) [] _ [] _ _ (ap meaning_of k.is) (c.from-letter.ensures ∙ c.letter.ensures) (search rules) refl refl refl c.joined-in-Payout.ensures
 
 pub returns-in-Day : goal.returns-in-Day
-unfolding encoding
 returns-in-Day c =
-    in_two c.args.command (moves_day c.in-Day.day) _ _ _ _ _ _ _ _ (ap meaning_of c.in-Day.is) (search rules) c.to_be_bytes-in-Day.ensures refl (omega arith) (omega arith) c.put_front-at-in-Day.ensures.after c.put_front-at-in-Day.ensures.value c.put_text-in-Day.ensures.after c.put_text-in-Day.ensures.value
+    let k = c.in-Day in
+    written c.args.command (moves_day k.day) _ [] _ _ [] _ _ (ap meaning_of k.is) (c.from-letter.ensures ∙ c.letter.ensures) (search rules) c.to_be_bytes-in-Day.ensures refl refl c.joined-in-Day.ensures

@@ -1,20 +1,25 @@
 -- A letter and its operands behind one another are the bytes of the line, and these are read as one command.
-use Rattle.std.proofs.Common.{map, get_or, sym, ◌∙◌, subst, rules}
+use Rattle.std.proofs.Common.{map, sym, ◌∙◌, subst, arith, rules}
+use Rattle.command.specs.Letters.{byte_of}
+use Rattle.command.specs.Table.{total}
 use Rattle.command_text.specs.Lines.{OneCommand, bytes_in}
-use Rattle.command_text.proofs.Scan.{line_none, line_said, line_some}
-use Rattle.command_text.proofs.Whole.{one_command}
+use Rattle.command_text.proofs.Scan.{line_none, line_said, line_some, line_unsaid}
+use Rattle.command_text.proofs.Whole.{length_operands, one_command}
 use Rattle.command_text.proofs.line.encode_line.Goals as goal
 
-pub returns-in-Some-operands : goal.returns-in-Some-operands
-returns-in-Some-operands c =
-    let front = c.skip_blanks.result.now in
-    let all = line_said c.args.text.now front (map bytes_in c.in-Some.widths.now) (search rules) c.skip_blanks.ensures c.if-letter-eq35.false c.in-Some.ensures in
-    let some = line_some (get_or front 0 0) c.in-Some-operands.size _ c.operands.new.out _ c.in-Some-operands.ensures in
-    let same = some.0 ∙ sym all in
-    record { value = same; within = some.1; back = subst OneCommand (sym same) (one_command c.args.text.now) }
+pub returns-in_default-try_from-clause-value : goal.returns-in_default-try_from-clause-value
+returns-in_default-try_from-clause-value c = line_unsaid c.args.text.now c.skip_blanks.result.now (omega arith) c.skip_blanks.ensures c.if-first-eq35.false c.in_default-try_from.ensures.1
 
-pub returns-in-None : goal.returns-in-None
-returns-in-None c =
-    let front = c.skip_blanks.result.now in
-    let all = line_said c.args.text.now front (map bytes_in c.in-Some.widths.now) (search rules) c.skip_blanks.ensures c.if-letter-eq35.false c.in-Some.ensures in
-    record { value = line_none (get_or front 0 0) _ c.operands.new.out _ c.in-None.ensures ∙ sym all; within = search rules; back = tt }
+pub returns-in-Some : goal.returns-in-Some
+returns-in-Some c =
+    let said = line_said c.args.text.now c.skip_blanks.result.now _ _ (omega arith) c.skip_blanks.ensures c.if-first-eq35.false c.in-Ok.ensures c.widths.ensures.value in
+    let some = line_some (byte_of c.in-Ok.letter) c.append.new.bytes.items c.operands.new.out.items _ (total (map bytes_in c.widths.result.now)) (search rules) (length_operands _ _) c.in-Some.ensures in
+    let same = some.0 ∙ sym said in
+    record { value = same; within = omega (arith, some.1, c.widths.ensures.room); back = subst OneCommand (sym same) (one_command c.args.text.now) }
+
+pub returns-in-None-clause-value : goal.returns-in-None-clause-value
+returns-in-None-clause-value c =
+    let said = line_said c.args.text.now c.skip_blanks.result.now _ _ (omega arith) c.skip_blanks.ensures c.if-first-eq35.false c.in-Ok.ensures c.widths.ensures.value in
+    let none = line_none (byte_of c.in-Ok.letter) _ c.operands.new.out.items _ c.in-None.ensures ∙ sym said in
+    let first = c.in-Ok.ensures in
+    cc

@@ -1,13 +1,7 @@
-use Rattle.std.proofs.Common.{arith}
+use Rattle.std.proofs.Common.{◌-◌, arith}
+use Rattle.roll.proofs.InPlace.{place_step}
 use Rattle.rights.specs.Holdings.{with_row, no_hour}
-use Rattle.rights.proofs.Spans.{over_start, span_step, span_end}
 use Rattle.rights.proofs.awards.hold_awarded.Goals as goal
 
-pub loop-h-init : goal.loop-h-init
-loop-h-init c = over_start (with_row c.args.a c.args.mw.now) c.args.first c.args.rights.now
-
-pub loop-h-preserved : goal.loop-h-preserved
-loop-h-preserved c = span_step (with_row c.args.a c.args.mw.now) c.args.first c.loop-h.h c.args.rights.now c.loop-h.rights (omega arith) c.loop-h.invariant no_hour _ (omega arith) c.hold.ensures
-
-pub returns : goal.returns
-returns c = span_end (with_row c.args.a c.args.mw.now) c.args.first c.loop-h.h c.args.rights.now c.loop-h.rights (omega arith) c.loop-h.invariant c.args.hours (omega arith)
+pub loop-hour-preserved : goal.loop-hour-preserved
+loop-hour-preserved c = place_step (with_row (c.args.auction.number - 1) c.args.mw.now) _ c.loop-hour.hour-items c.loop-hour.hour-index no_hour _ (omega arith) c.loop-hour.invariant c.hold.ensures

@@ -1,20 +1,14 @@
-use Rattle.std.proofs.Common.{arith}
+use Rattle.std.proofs.Common.{◌+◌, ◌-◌, arith}
+use Rattle.roll.proofs.InPlace.{place_step}
 use Rattle.rights.specs.Holdings.{no_hour}
 use Rattle.rights.specs.Returns.{restored}
-use Rattle.rights.proofs.Spans.{over_start, span_rest, span_step, span_end}
+use Rattle.rights.proofs.Spans.{part_rest}
 use Rattle.rights.proofs.cancels.give_back.Goals as goal
 
 pub restore_hour-requires : goal.restore_hour-requires
 restore_hour-requires c =
-    let same = span_rest (restored c.args.waiting.now) c.args.first c.loop-h.h c.args.rights.now c.loop-h.rights (omega arith) c.loop-h.invariant no_hour in
-    rw same (c.requires.room c.loop-h.h (omega arith) (omega arith))
+    let same = part_rest (restored c.args.waiting.now) c.args.span.first (c.end.result - c.args.span.first) c.loop-hour.hour-index c.args.rights.now c.loop-hour.hour-items no_hour (omega arith) c.loop-hour.invariant in
+    rw same (c.requires.room (c.args.span.first + c.loop-hour.hour-index) (omega arith) (omega arith))
 
-pub loop-h-init : goal.loop-h-init
-loop-h-init c = over_start (restored c.args.waiting.now) c.args.first c.args.rights.now
-
-pub loop-h-preserved : goal.loop-h-preserved
-loop-h-preserved c =
-    span_step (restored c.args.waiting.now) c.args.first c.loop-h.h c.args.rights.now c.loop-h.rights (omega arith) c.loop-h.invariant no_hour _ (omega arith) c.restore_hour.ensures
-
-pub returns : goal.returns
-returns c = span_end (restored c.args.waiting.now) c.args.first c.loop-h.h c.args.rights.now c.loop-h.rights (omega arith) c.loop-h.invariant c.args.hours (omega arith)
+pub loop-hour-preserved : goal.loop-hour-preserved
+loop-hour-preserved c = place_step (restored c.args.waiting.now) _ c.loop-hour.hour-items c.loop-hour.hour-index no_hour _ (omega arith) c.loop-hour.invariant c.restore_hour.ensures

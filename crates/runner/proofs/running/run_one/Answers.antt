@@ -35,7 +35,7 @@ returns g c =
           runs_as _ _ _ _ _ _ _ _ _
           (room_there c.args.input.now c.args.place c.args.page.now c.args.at (omega arith)
           ∙ (sym c.in-Ok.ensures.value ∙ ap (λ n. task_of (Ok n)) c.in-Some.is))
-          (answered _ _ _ _ _ _ c.perform-answer.result c.letter.result c.answer_line-line.result _ _ c.letter.ensures p c.answer_line-line.ensures.value c.outcome.ensures c.say.ensures.after c.say.ensures.value);
+          (answered _ _ _ _ _ _ c.perform-answer.result c.from.result c.answer_line-line.result _ _ (c.from.ensures ∙ c.letter.ensures) p c.answer_line-line.ensures.value c.outcome.ensures c.say.ensures.after c.say.ensures.value);
       refused = λ h. refused_rests _ _ p.reply _ p.step (sym (ap is_refused (c.outcome.ensures ∙ same_outcome _ _ p.reply p.shows)) ∙ h);
       within = λ h. c.say.ensures.within;
       onward = λ h. subst (λ n. OnwardTo (task_of (Ok n)) c.args.place c.args.input.now) c.in-Some.is c.in-Ok.ensures.within;

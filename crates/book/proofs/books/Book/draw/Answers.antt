@@ -1,14 +1,13 @@
-use Rattle.std.proofs.Common.{arith}
 use Rattle.ledger.proofs.Once.{sound_held}
 use Rattle.ledger.proofs.Sounds.{sound_payment}
 use Rattle.book.proofs.Again.{again}
 use Rattle.book.proofs.books.Book.draw.Goals as goal
 
 pub overdue-overdue-requires : goal.overdue-overdue-requires
-overdue-overdue-requires g c = (sound_held c.args.self.now.sound, (omega arith, omega arith))
+overdue-overdue-requires g c = sound_held c.args.self.now.sound
 
 pub pay-requires : goal.pay-requires
-pay-requires g c = (omega arith, (omega arith, sound_held c.args.self.now.sound))
+pay-requires g c = sound_held c.args.self.now.sound
 
 pub invariant_of-self : goal.invariant_of-self
-invariant_of-self g c = record { sound = again c.pay.new.self c.pay.ensures.after (sound_payment c.args.p c.counted-drawn.result c.args.self.now.ledger (sound_held c.args.self.now.sound)) }
+invariant_of-self g c = record { sound = again c.pay.new.self c.pay.ensures.after (sound_payment c.in_ok-p.p.number c.counted-drawn.result c.args.self.now.ledger (sound_held c.args.self.now.sound)) }

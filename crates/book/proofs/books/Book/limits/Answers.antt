@@ -1,5 +1,5 @@
 use Rattle.std.proofs.Common.{◌≡◌, ℕ, ◌+◌, ◌-◌, ◌<◌, List, length, get_or, take, set, sym, ap, ◌∙◌, arith, length-set}
-use Rattle.std.proofs.lemmas.List.{get_or-set_same, take_all, take_more_same, take-set}
+use Rattle.std.proofs.lemmas.List.{get_or-set_same, take_more_same, take-set}
 use Rattle.ledger.specs.Limits.{Cover, all_limits, credit_limit}
 use Rattle.ledger.specs.declared.ledgers.Ledger.{Ledger}
 use Rattle.ledger.proofs.Loads.{limit_found}
@@ -12,13 +12,8 @@ limit_more l cover limits p v lt twelve same e =
     take_more_same (set limits p v) (all_limits l cover) p 0 (omega (arith, length-set limits p v)) lt (take-set limits p v ∙ same)
     (get_or-set_same limits p v 0 (omega arith) ∙ (e ∙ (sym (limit_found l cover (p + 1) (omega arith) (omega arith)) ∙ ap (λ i. get_or (all_limits l cover) i 0) back)))
 
-pub loop-p-preserved : goal.loop-p-preserved
-loop-p-preserved g c = (
-  length-set c.loop-p.limits c.loop-p.p c.limit_of.result ∙ c.loop-p.invariant.0,
-  limit_more c.args.self.now.ledger (g.C.Collateral.cover c.args.self.now.collateral) c.loop-p.limits c.loop-p.p c.limit_of.result (omega arith) c.loop-p.invariant.0 c.loop-p.invariant.1 c.limit_of.ensures.value,
+pub loop-place-preserved : goal.loop-place-preserved
+loop-place-preserved g c = (
+  length-set c.loop-place.limit-items c.loop-place.place c.limit_of.result ∙ c.loop-place.invariant.0,
+  limit_more c.args.self.now.ledger (g.C.Collateral.cover c.args.self.now.collateral) c.loop-place.limit-items c.loop-place.place c.limit_of.result (omega arith) c.loop-place.invariant.0 c.loop-place.invariant.1 c.limit_of.ensures.value,
 )
-
-pub returns : goal.returns
-returns g c =
-    let all : List ℕ = all_limits c.args.self.now.ledger (g.C.Collateral.cover c.args.self.now.collateral) in
-    sym (take_all c.loop-p.p c.loop-p.limits (omega (arith, c.loop-p.invariant.0))) ∙ (c.loop-p.invariant.1 ∙ take_all c.loop-p.p all (omega arith))

@@ -1,4 +1,4 @@
-use Rattle.std.proofs.Common.{◌≡◌, true, leb, length, sym, ap, ◌∙◌, subst, rules}
+use Rattle.std.proofs.Common.{◌≡◌, true, is_ok, leb, length, sym, ap, ◌∙◌, subst, rules}
 use Rattle.std.proofs.lemmas.Bool.{and_parts, cond-false, cond-true, leb-true}
 use Rattle.collateral.specs.Cover.{Took, in_range, participant}
 use Rattle.collateral.specs.Guarantees.{folder_cover, folder_of, guarantees_cover, held_in, used, with_folder, with_held}
@@ -13,7 +13,7 @@ returns c =
     let sum = c.args.sum in
     let f = folder_of x p in
     let f' = with_held (used day sum (held_in f)) f in
-    let r = c.take.result in
+    let r = is_ok c.take.result in
     let size : length x.folders ≡ 12 = search rules in
     let inside : in_range p day ≡ true = search rules in
     let who = (and_parts (participant p) (leb day 9999) inside).0 in

@@ -1,20 +1,16 @@
-use Rattle.std.proofs.Common.{ap, ◌∙◌, arith}
-use Rattle.std.proofs.lemmas.List.{take_all}
-use Rattle.roll.specs.Sums.{sum_of}
-use Rattle.roll.proofs.Sums.{sum_more}
+use Rattle.std.proofs.Common.{◌≡◌, ◌<◌, ◌^◌, sym, ◌∙◌, arith, rules}
+use Rattle.std.specs.List.{sum_by}
+use Rattle.roll.proofs.Chains.{sum_of_is}
 use Rattle.auction.specs.declared.sheets.Sheet.{Sheet}
-use Rattle.ledger.specs.Auctions.{no_sheet}
-use Rattle.ledger.proofs.Sheets.{kept_few}
+use Rattle.ledger.proofs.Sheets.{kept_in_all}
 use Rattle.ledger.proofs.auctions.Auction.bids_kept.Goals as goal
 
-pub overflow_add-sum : goal.overflow_add-sum
-overflow_add-sum c = omega (arith, c.loop-sheet.invariant.1, kept_few c.args.self.now c.requires.0 c.requires.1 c.loop-sheet.sheet-index (omega arith))
-
-pub loop-sheet-preserved : goal.loop-sheet-preserved
-loop-sheet-preserved c =
-    let few = kept_few c.args.self.now c.requires.0 c.requires.1 c.loop-sheet.sheet-index (omega arith) in
-    let more = sum_more (λ (s : Sheet). s.kept) c.args.self.now.sheets c.loop-sheet.sheet-index no_sheet (omega (arith, c.requires.0.rows)) in
-    (omega (arith, c.loop-sheet.invariant.0), omega (arith, c.loop-sheet.invariant.1))
+pub sum-requires-clause-fits : goal.sum-requires-clause-fits
+sum-requires-clause-fits c =
+    let few : sum_by (λ (s : Sheet). s.kept) c.args.self.now.sheets < 2 ^ 64 = omega (arith, sum_of_is (λ (s : Sheet). s.kept) c.args.self.now.sheets, kept_in_all c.args.self.now c.requires.0 c.requires.1) in
+    search rules
 
 pub returns : goal.returns
-returns c = c.loop-sheet.invariant.0 ∙ ap (sum_of (λ (s : Sheet). s.kept)) (take_all c.loop-sheet.sheet-index c.args.self.now.sheets (omega (arith, c.requires.0.rows)))
+returns c =
+    let e : c.sum.result ≡ sum_by (λ (s : Sheet). s.kept) c.args.self.now.sheets = search rules in
+    e ∙ sym (sum_of_is _ _)

@@ -1,18 +1,21 @@
-use Rattle.std.proofs.Common.{◌-◌, get_or, arith, rules}
-use Rattle.std.proofs.lemmas.List.{take_all}
-use Rattle.roll.proofs.Sums.{sum_more}
-use Rattle.ledger.specs.Auctions.{held_in, no_auction}
-use Rattle.ledger.proofs.Owing.{held_within}
+use Rattle.std.proofs.Common.{◌≡◌, ◌<◌, ◌^◌, get_or, sym, ◌∙◌, arith, rules}
+use Rattle.std.specs.List.{sum_by}
+use Rattle.roll.proofs.Chains.{sum_of_is}
+use Rattle.ledger.specs.declared.auctions.Auction.{Auction}
+use Rattle.ledger.specs.Auctions.{no_sheet}
+use Rattle.ledger.proofs.Owing.{held_in_all}
 use Rattle.ledger.proofs.ledgers.Ledger.held_sums.Goals as goal
 
-pub overflow_add-sum : goal.overflow_add-sum
-overflow_add-sum c = omega (arith, c.loop-auction.invariant.1, held_within (get_or c.args.self.now.auctions c.loop-auction.auction-index no_auction) (c.requires.0.auctions.each c.loop-auction.auction-index (omega arith)) (c.args.p - 1) (omega arith))
-
-pub loop-auction-preserved : goal.loop-auction-preserved
-loop-auction-preserved c =
-    let more = sum_more (held_in c.args.p) c.args.self.now.auctions c.loop-auction.auction-index no_auction (omega (arith, c.requires.0.auctions.rows)) in
-    let most = held_within (get_or c.args.self.now.auctions c.loop-auction.auction-index no_auction) (c.requires.0.auctions.each c.loop-auction.auction-index (omega arith)) (c.args.p - 1) (omega arith) in
-    (omega (arith, c.loop-auction.invariant.0), omega (arith, c.loop-auction.invariant.1))
+pub sum-requires-clause-fits : goal.sum-requires-clause-fits
+sum-requires-clause-fits c =
+    let held = λ (x : Auction). (get_or x.sheets c.index-place.result no_sheet).held in
+    let few : sum_by held c.args.self.now.auctions < 2 ^ 64 = omega (arith, sum_of_is held c.args.self.now.auctions, held_in_all c.args.self.now c.index-place.result c.requires.auctions c.index-place.ensures.within) in
+    search rules
 
 pub returns : goal.returns
-returns c = record { value = search (rules, take_all); within = omega (arith, c.loop-auction.invariant.1) }
+returns c =
+    let held = λ (x : Auction). (get_or x.sheets c.index-place.result no_sheet).held in
+    let e : c.sum.result ≡ sum_by held c.args.self.now.auctions = search rules in
+    let all = sum_of_is held c.args.self.now.auctions in
+    let most = held_in_all c.args.self.now c.index-place.result c.requires.auctions c.index-place.ensures.within in
+    record { value = rw c.index-place.ensures.value at (e ∙ sym all); within = omega arith }

@@ -1,5 +1,5 @@
 use Rattle.ledger.proofs.Sounds.{sound_new}
 use Rattle.ledger.proofs.ledgers.Ledger.new.Goals as goal
 
-pub returns : goal.returns
-returns c = let e = c.new-unopened.ensures in let f = c.empty.ensures in record { value = cc; sound = rw (e, f) sound_new }
+pub returns-clause-sound : goal.returns-clause-sound
+returns-clause-sound c = rw (c.new-unopened.ensures, c.empty.ensures, c.empty-2.ensures) sound_new

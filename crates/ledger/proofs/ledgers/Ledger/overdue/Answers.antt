@@ -1,6 +1,0 @@
-use Rattle.std.proofs.Common.{◌-◌, arith}
-use Rattle.ledger.proofs.Owing.{owes_within}
-use Rattle.ledger.proofs.ledgers.Ledger.overdue.Goals as goal
-
-pub overdue-requires : goal.overdue-requires
-overdue-requires c = omega (arith, owes_within c.args.self.now c.requires.0.auctions c.requires.0.accounts (c.args.p - 1) (omega arith))
