@@ -15,4 +15,5 @@ pub use bids::{Bid, MOST_BIDS};
 pub use numbering::PARTICIPANTS;
 pub use prices::marginal_price;
 pub use products::Product;
+pub use roll::Full;
 pub use sheets::{Sheet, seal_all};

@@ -14,7 +14,7 @@ pub struct Demand {
 }
 
 impl Demand {
-    // What bids ask for above the price and at it; below it they get nothing.
+    // What bids ask for above the price and at it; below it they get nothing. (One match of each bid with the price.)
     pub(crate) fn of(bids: Bids, price: u32) -> Demand
         ensures { result ≡ demand_of price bids.entry.list.now }
     {

@@ -9,10 +9,11 @@ ghost use Rattle.auction.specs.Rivals.{PaysAtMost, MadeToPay, RightlyLeftOut};
 use super::bids::{Bid, Bids, MOST_BIDS};
 use super::products::Product;
 use numbering::PARTICIPANTS;
-use roll::{Full, Roll};
+use roll::{Full, Roll, change_each};
 
-// The first `count` places hold bids, in their order; the seal kept the first `kept` of these at the credit limit
-// that it found, and holds a sum for them. Places and a count, since no memory is taken from a heap here.
+// The first `count` places hold bids, in their order; the seal kept the first `kept` of these at the credit limit that
+// it found, and holds a sum for them. (Places and a count, since a sheet is copied with the auction that has it: a list
+// of the library's is not `Copy`.)
 #[derive(Clone, Copy, PartialEq, Eq, Debug)]
 pub struct Sheet {
     pub bids: [Bid; MOST_BIDS],
@@ -118,7 +119,8 @@ impl Sheet {
 pub fn seal_all(sheets: &mut [Sheet; PARTICIPANTS], product: Product, limits: &[u64; PARTICIPANTS])
     ensures { sheets.new ≡ all_sealed product limits.now sheets.old }
 {
-    for (i, sheet) in sheets.iter_mut().enumerate() {
-        sheet.seal(product, limits[i]);
-    }
+    change_each(sheets, limits, |mut sheet, limit| {
+        sheet.seal(product, limit);
+        sheet
+    });
 }

@@ -1,6 +1,5 @@
 // The round that is worked through: 121 MW from zone 1 to zone 2 over 24 hours, five bidders.
-use auction::{Bid, PARTICIPANTS, Product, Sheet};
-use roll::Full;
+use auction::{Bid, Full, PARTICIPANTS, Product, Sheet};
 
 pub(crate) const CAPACITY: u16 = 121;
 

@@ -1,5 +1,5 @@
 // Auctions opened, bid in and sealed.
-ghost use Rattle.std.specs.Prelude.{◌≡◌, true, false, IfOk, IfErr};
+ghost use Rattle.std.specs.Prelude.{◌≡◌, ◌+◌, ◌<◌, true, false, IfOk, IfErr};
 ghost use Rattle.ledger.specs.Limits.{all_limits};
 ghost use Rattle.rules.specs.Calls.{award_auction, cancel_auction, open_auction, place_bid, seal_auction};
 ghost use Rattle.book.specs.Books.{moment};
@@ -12,8 +12,10 @@ use collateral::kind::Collateral;
 use ledger::{Auction, Direction};
 use numbering::{AUCTIONS, HOURS, PARTICIPANTS, Participant};
 use rules::{Clearing, Cut, Receipt, Refusal};
+use std::array;
 
-// The most MW of a bid, a transfer, a return or a capacity.
+// The most MW of a bid, a transfer, a return or a capacity. (Tested in a line wherever it stands in the order of a
+// call's refusals.)
 pub(crate) const MOST_MW: u16 = 5_000;
 
 // The highest price of a bid, in cents per MW and hour.
@@ -31,6 +33,16 @@ pub(crate) fn direction(from: u8, to: u8) -> Result<Direction, Refusal>
         return Err(Refusal::Zone);
     }
     Ok(Direction { from, to })
+}
+
+// The participant that stands at a place in a list of all. (Here, since a number with another bound may not fit a byte.)
+fn participant_at(place: usize) -> Participant
+    requires { place < 12 }
+    ensures { result.number ≡ place + 1 }
+{
+    Participant {
+        number: place as u8 + 1,
+    }
 }
 
 impl<C: Collateral> Book<C> {
@@ -91,13 +103,7 @@ impl<C: Collateral> Book<C> {
     fn limits(&self) -> [u64; PARTICIPANTS]
         ensures { result ≡ all_limits self.now.ledger (C.cover self.now.collateral) }
     {
-        let mut limits = [0; PARTICIPANTS];
-        for (place, limit) in limits.iter_mut().enumerate() {
-            *limit = self.limit_of(Participant {
-                number: place as u8 + 1,
-            });
-        }
-        limits
+        array::from_fn(|place| self.limit_of(participant_at(place)))
     }
 
     // Seals an auction: the limits of all twelve are found before any sum is held.

@@ -4,7 +4,7 @@ ghost use Rattle.book.specs.Books.{moment};
 ghost use Rattle.rules.specs.Steps.{Step};
 
 use super::books::Book;
-use super::paying::MOST;
+use collateral::bounds::MOST;
 use collateral::kind::Collateral;
 use numbering::Participant;
 use rules::Refusal;

@@ -8,7 +8,8 @@ use collateral::kind::Collateral;
 use ledger::Ledger;
 
 impl<C: Collateral> Book<C> {
-    // A new book over the collateral: day 0, no auction, no debt. Whatever calls it is then given, the credit law holds.
+    // A new book over the collateral: day 0, no auction, no debt. Whatever calls it is then given, the credit law
+    // holds.
     pub fn new(collateral: C) -> Book<C>
         ensures ledger { result.ledger ≡ new_ledger }
         ensures collateral { result.collateral ≡ collateral }

@@ -5,15 +5,13 @@ ghost use Rattle.rules.specs.Steps.{Step};
 
 use super::books::Book;
 use account::MOST_INVOICES;
+use collateral::bounds::MOST;
 use collateral::kind::Collateral;
 use numbering::Participant;
 use rules::{Netting, Refusal};
 
 // The last day to which the book moves.
 const LAST_DAY: u16 = 9_900;
-
-// The largest sum of a call, in cents.
-pub(crate) const MOST: u64 = 1_000_000_000_000;
 
 impl<C: Collateral> Book<C> {
     // Nets a participant's dues against its claims.

@@ -3,12 +3,13 @@ ghost use Rattle.std.specs.Prelude.{◌≡◌, ◌==◌};
 ghost use Rattle.collateral.specs.Cash.{cash_added, cash_cover, cash_taken, cash_verdict, no_cash};
 ghost use Rattle.std.proofs.Common.{rules};
 
-use super::bounds::{LAST_DAY, MOST, PARTICIPANTS, is_in_range, is_participant};
+use super::bounds::{LAST_DAY, MOST, PARTICIPANTS, participant_on};
 use super::kind::{Cause, Collateral, Short, nothing_there};
+use numbering::Participant;
 
 const CASH: u8 = 1;
 
-#[derive(Clone, Copy)]
+#[derive(Clone, Copy, PartialEq, Eq, Debug)]
 pub struct Cash {
     balances: [u64; PARTICIPANTS],
 }
@@ -43,17 +44,17 @@ impl Collateral for Cash {
     }
 
     fn counted(&self, p: u8, day: u16, wanted: u64) -> u64 {
-        if !is_in_range(p, day) {
+        let Some(p) = participant_on(p, day) else {
             return 0;
-        }
-        wanted.min(self.balances[p as usize - 1])
+        };
+        wanted.min(self.balances[p.index()])
     }
 
     fn take(&mut self, p: u8, day: u16, sum: u64) -> Result<(), Short> {
-        if !is_in_range(p, day) {
+        let Some(p) = participant_on(p, day) else {
             return nothing_there(sum);
-        }
-        let i = p as usize - 1;
+        };
+        let i = p.index();
         let balance = self.balances[i];
         if sum > balance {
             return Err(Short);
@@ -63,13 +64,11 @@ impl Collateral for Cash {
     }
 
     fn add(&mut self, p: u8, kind: u8, sum: u64, last: u16, _today: u16) -> Result<(), Cause> {
-        if !is_participant(p) {
-            return Err(Cause::Stranger);
-        }
+        let p = Participant::try_from(p)?;
         if kind != CASH {
             return Err(Cause::UnknownKind);
         }
-        let i = p as usize - 1;
+        let i = p.index();
         let balance = self.balances[i];
         if sum == 0 || sum > MOST || sum > MOST.saturating_sub(balance) {
             return Err(Cause::BadSum);

@@ -11,7 +11,7 @@ use super::kind::{Cause, Short};
 use roll::{Ranked, Roll, Spendable, left_over, place_behind};
 
 // A sum that a bank stands in for, up to its last day. (An invoice has a day and a sum too, of another meaning each.)
-#[derive(Clone, Copy)]
+#[derive(Clone, Copy, PartialEq, Eq, Debug)]
 pub struct Guarantee {
     pub last: u16,
     pub sum: u64,
@@ -53,7 +53,8 @@ impl Spendable for Guarantee {
 }
 
 // The first `count` places, lent to a roll where it works on them, hold guarantees.
-#[derive(Clone, Copy)]
+// (Places and a count, as records of all participants are copied whole; a list of the library's is not `Copy`.)
+#[derive(Clone, Copy, PartialEq, Eq, Debug)]
 pub struct Folder {
     pub(crate) places: [Guarantee; PLACES],
     pub(crate) count: usize,

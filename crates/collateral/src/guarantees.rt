@@ -5,13 +5,14 @@ ghost use Rattle.collateral.specs.Runs.{RunsCount};
 ghost use Rattle.std.proofs.Common.{rules};
 ghost use Rattle.collateral.specs.Covers.{cover_falls};
 
-use super::bounds::{LAST_DAY, MOST, PARTICIPANTS, PLACES, is_in_range, is_participant};
+use super::bounds::{LAST_DAY, MOST, PARTICIPANTS, PLACES, participant_on};
 use super::folder::{Folder, Guarantee};
 use super::kind::{Cause, Collateral, Short, nothing_there};
+use numbering::Participant;
 
 const GUARANTEE: u8 = 2;
 
-#[derive(Clone, Copy)]
+#[derive(Clone, Copy, PartialEq, Eq, Debug)]
 pub struct Guarantees {
     folders: [Folder; PARTICIPANTS],
 }
@@ -52,23 +53,21 @@ impl Collateral for Guarantees {
     }
 
     fn counted(&self, p: u8, day: u16, wanted: u64) -> u64 {
-        if !is_in_range(p, day) {
+        let Some(p) = participant_on(p, day) else {
             return 0;
-        }
-        self.folders[p as usize - 1].counted(day, wanted)
+        };
+        self.folders[p.index()].counted(day, wanted)
     }
 
     fn take(&mut self, p: u8, day: u16, sum: u64) -> Result<(), Short> {
-        if !is_in_range(p, day) {
+        let Some(p) = participant_on(p, day) else {
             return nothing_there(sum);
-        }
-        self.folders[p as usize - 1].take(day, sum)
+        };
+        self.folders[p.index()].take(day, sum)
     }
 
     fn add(&mut self, p: u8, kind: u8, sum: u64, last: u16, today: u16) -> Result<(), Cause> {
-        if !is_participant(p) {
-            return Err(Cause::Stranger);
-        }
+        let p = Participant::try_from(p)?;
         if kind != GUARANTEE {
             return Err(Cause::UnknownKind);
         }
@@ -78,6 +77,6 @@ impl Collateral for Guarantees {
         if last < today || last >= LAST_DAY {
             return Err(Cause::LastDay);
         }
-        self.folders[p as usize - 1].put(today, Guarantee { last, sum })
+        self.folders[p.index()].put(today, Guarantee { last, sum })
     }
 }

@@ -11,7 +11,7 @@ use super::guarantees::Guarantees;
 use super::kind::{Cause, Collateral, Short};
 
 // A take empties the first kind before the second, an add goes to the first that knows its number.
-#[derive(Clone, Copy)]
+#[derive(Clone, Copy, PartialEq, Eq, Debug)]
 pub struct Joined<F, S> {
     pub first: F,
     pub second: S,

@@ -1,8 +1,11 @@
 // A kind of collateral, known by its cover alone.
 ghost use Rattle.std.specs.Prelude.{◌≡◌, ◌==◌, ℕ, ◌≤◌, min, Bool, true, false, Result, is_ok, nat_le};
 ghost use Rattle.collateral.specs.declared.kind.Cause.{Cause};
+ghost use Rattle.collateral.specs.declared.kind.Cause.TheVariants.{Stranger};
 ghost use Rattle.collateral.specs.Causes.{granted, number_of};
 ghost use Rattle.collateral.specs.Cover.{Added, Took, in_range};
+
+use numbering::NoParticipant;
 
 // Why an add is refused.
 #[derive(Clone, Copy, PartialEq, Eq, Debug)]
@@ -15,10 +18,20 @@ pub enum Cause {
 }
 
 impl Cause {
+    // The number that a refusal shows as its cause.
     pub fn number(&self) -> u8
         ensures { result ≡ number_of self.now }
     {
         *self as u8
+    }
+}
+
+// A number that no participant has is refused as a stranger's.
+impl From<NoParticipant> for Cause {
+    ghost from_gives = { λ _ r. r ≡ Stranger };
+
+    fn from(_stranger: NoParticipant) -> Cause {
+        Cause::Stranger
     }
 }
 

@@ -84,7 +84,7 @@ fn a_take_empties_cash_first(rt: HostRuntime) {
 }
 
 // An add on day 20, and the number of its cause if it is refused.
-#[derive(Clone, Copy)]
+#[derive(Clone, Copy, PartialEq, Eq, Debug)]
 struct Tried {
     p: u8,
     kind: u8,

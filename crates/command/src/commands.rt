@@ -6,12 +6,13 @@ ghost use Rattle.command.specs.Table.{letter_of};
 
 use crate::letter::Letter;
 
-// A curtailment has a limit of two bytes for each of 24 hours.
+// A curtailment has a limit of two bytes for each of 24 hours. (As rights cut them, of which commands know nothing.)
 pub const HOURS_CUT: usize = 24;
 
-pub const LIMIT_BYTES: usize = 48;
-// A curtailment is the longest command.
-pub const LONGEST_COMMAND: usize = 52;
+pub const LIMIT_BYTES: usize = 2 * HOURS_CUT;
+
+// A curtailment is the longest command: its letter, two zones, an hour and the limits.
+pub const LONGEST_COMMAND: usize = 4 + LIMIT_BYTES;
 
 // Money is in euro cents, a price in cents per MW and hour, power in MW.
 #[derive(Clone, Copy, PartialEq, Eq, Debug)]

@@ -40,7 +40,7 @@ fn read_within<'a>(input: &'a [u8], place: usize) -> Result<Found<'a>, Unreadabl
 }
 
 // A command, and what stands behind it.
-#[derive(Clone, Copy)]
+#[derive(Clone, Copy, PartialEq, Eq, Debug)]
 struct Taken<'a> {
     command: Command<'a>,
     rest: &'a [u8],

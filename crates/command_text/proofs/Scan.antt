@@ -8,6 +8,7 @@ use Rattle.command.specs.Table.{Row, table}
 use Rattle.command.proofs.Onward.{Unlike, no_row}
 use Rattle.command_text.specs.Words.{past_blanks}
 use Rattle.command_text.specs.declared.line.Expected.TheVariants as expected
+use Rattle.command_text.specs.declared.widths.Unsaid.{Unsaid}
 use Rattle.command_text.specs.Lines.{Scanned, by_operands, by_widths, from_word, line_bytes, operand_bytes, said, said_in}
 
 unsaid : (rs : List Row) (l : ℕ) → Unlike rs l → said_in rs l ≡ None
@@ -31,13 +32,13 @@ line_said text (x ∷ rest) ws l h e n k w =
     ∙ ap (λ s. by_operands l (operand_bytes ws s)) (sym (take_rest (x ∷ rest) 1))
 
 -- the letter and the operands behind it
-pub line_some : (l : ℕ) (p q : List ℕ) (o : Option (List ℕ)) (n : ℕ) → p ≡ l ∷ [] → ((t : List ℕ) → o ≡ Some t → length t ≡ n) → Scanned o p (Some tt) q → (Ok q ≡ by_operands l o) × (length q ≡ 1 + n)
+pub line_some : (l : ℕ) (p q : List ℕ) (o : Option (List ℕ)) (n : ℕ) → p ≡ l ∷ [] → ((t : List ℕ) → o ≡ Some t → length t ≡ n) → Scanned o p (Ok tt) q → (Ok q ≡ by_operands l o) × (length q ≡ 1 + n)
 line_some l p q None n e h s = absurd s
 line_some l p q (Some t) n e h s =
     let size = h t refl in
     let same : q ≡ l ∷ t = s ∙ ap (λ x. x ++ t) e in
     (ap Ok same, ap length same ∙ omega arith)
 
-pub line_none : (l : ℕ) (p q : List ℕ) (o : Option (List ℕ)) → Scanned o p None q → Err (expected.Operands l) ≡ by_operands l o
-line_none l p q None s = refl
-line_none l p q (Some t) s = absurd s
+pub line_none : (l : ℕ) (p q : List ℕ) (o : Option (List ℕ)) (e : Unsaid) → Scanned o p (Err e) q → Err (expected.Operands l) ≡ by_operands l o
+line_none l p q None e s = refl
+line_none l p q (Some t) e s = absurd s

@@ -8,6 +8,7 @@ use Rattle.arrayvec.specs.ArrayVec.{ArrayVec, array_vec_len}
 use Rattle.command_text.specs.Words.{past_blanks, past_digits, starts_digit, value_on}
 use Rattle.command_text.specs.declared.line.Expected.{Expected}
 use Rattle.command_text.specs.declared.line.Expected.TheVariants.{Letter, Operands}
+use Rattle.command_text.specs.declared.widths.Unsaid.{Unsaid}
 use Rattle.command_text.specs.declared.widths.Width.{Width}
 use Rattle.command_text.specs.declared.widths.Width.TheVariants.{Byte, Pair, Quad, Sum}
 
@@ -68,7 +69,6 @@ from_word (l ∷ text) = cond (l == (byte "#")) (Ok []) (by_widths l text (said 
 abbrev pub line_bytes : List ℕ → Result (List ℕ) Expected
 line_bytes text = from_word (past_blanks text)
 
--- what an error stands for
 -- what the answer stands for
 abbrev pub packet_of : Result (ArrayVec ℕ) Expected → Result (List ℕ) Expected
 packet_of (Ok p) = Ok p.items
@@ -80,16 +80,16 @@ size_of (Ok p) = array_vec_len p
 size_of (Err e) = 0
 
 -- a number that fits w bytes stands behind those before it
-abbrev pub Packed : ℕ → ℕ → List ℕ → Option (Unit {0}) → List ℕ → Type 0
-Packed w n out None out' = n < 256 ^ w → ⊥
-Packed w n out (Some done) out' = (n < 256 ^ w) × (out' ≡ out ++ big_endian w n)
+abbrev pub Packed : ℕ → ℕ → List ℕ → Result (Unit {0}) Unsaid → List ℕ → Type 0
+Packed w n out (Err e) out' = n < 256 ^ w → ⊥
+Packed w n out (Ok done) out' = (n < 256 ^ w) × (out' ≡ out ++ big_endian w n)
 
 -- the bytes, if there are any, stand behind those before them
-abbrev pub Scanned : Option (List ℕ) → List ℕ → Option (Unit {0}) → List ℕ → Type 0
-Scanned None out None out' = Unit {0}
-Scanned None out (Some done) out' = ⊥
-Scanned (Some t) out None out' = ⊥
-Scanned (Some t) out (Some done) out' = out' ≡ out ++ t
+abbrev pub Scanned : Option (List ℕ) → List ℕ → Result (Unit {0}) Unsaid → List ℕ → Type 0
+Scanned None out (Err e) out' = Unit {0}
+Scanned None out (Ok done) out' = ⊥
+Scanned (Some t) out (Err e) out' = ⊥
+Scanned (Some t) out (Ok done) out' = out' ≡ out ++ t
 
 -- wherever these bytes stand, and whatever follows them, they are read as one command that ends where they end
 abbrev pub OneCommand : Result (List ℕ) Expected → Type 0

@@ -4,13 +4,14 @@ ghost use Rattle.arrayvec.specs.ArrayVec.{array_vec_len};
 ghost use Rattle.command.specs.Table.{total};
 ghost use Rattle.command_text.specs.Lines.{OneCommand, Scanned, bytes_in, ends, line_bytes, operand_bytes, packet_of, size_of};
 
-use crate::widths::{Width, pack, widths};
+use crate::widths::{Unsaid, Width, pack, widths};
 use crate::words::{number, skip_blanks};
 use arrayvec::ArrayVec;
 use command::{LONGEST_COMMAND, Letter};
 use lines::append;
 
-// What should have stood in a line that cannot be read. (A letter by its byte: `text` has an answer for any.)
+// What should have stood in a line that cannot be read. (A letter is any byte, for which `text` has an answer: a type of
+// its own would ask more of whoever makes the value.)
 #[derive(Clone, Copy, PartialEq, Eq, Debug)]
 pub enum Expected {
     Letter,
@@ -35,21 +36,25 @@ pub fn encode_line(text: &[u8]) -> Result<ArrayVec<u8, LONGEST_COMMAND>, Expecte
     };
     append(&mut bytes, &[*first]);
     match operands(rest, widths(letter), &mut bytes) {
-        Some(()) => Ok(bytes),
-        None => Err(Expected::Operands { letter: *first }),
+        Ok(()) => Ok(bytes),
+        Err(Unsaid) => Err(Expected::Operands { letter: *first }),
     }
 }
 
 // Appends the operands that a text says, in these widths.
-fn operands(text: &[u8], widths: &[Width], out: &mut ArrayVec<u8, LONGEST_COMMAND>) -> Option<()>
+fn operands(
+    text: &[u8],
+    widths: &[Width],
+    out: &mut ArrayVec<u8, LONGEST_COMMAND>,
+) -> Result<(), Unsaid>
     requires { array_vec_len out.old + total (map bytes_in widths.now) ≤ 52 }
     ensures { Scanned (operand_bytes (map bytes_in widths.now) text.now) out.old.items result out.new.items }
 {
     let text = skip_blanks(text);
     let [width, rest @ ..] = widths else {
-        return says_no_more(text).then_some(());
+        return says_no_more(text).then_some(()).ok_or(Unsaid);
     };
-    let (value, text) = number(text)?;
+    let (value, text) = number(text).ok_or(Unsaid)?;
     pack(out, *width, value)?;
     operands(text, rest, out)
 }

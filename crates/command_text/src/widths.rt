@@ -9,6 +9,7 @@ use Width::{Byte, Pair, Quad, Sum};
 use arrayvec::ArrayVec;
 use command::{LONGEST_COMMAND, Letter};
 use lines::append;
+use std::num::TryFromIntError;
 
 // The bytes of an operand: one, two, four or eight.
 #[derive(Clone, Copy, PartialEq, Eq, Debug)]
@@ -48,15 +49,31 @@ static CURTAIL: [Width; 27] = [
     Pair, Pair, Pair, Pair, Pair, Pair, Pair, Pair, Pair, Pair, Pair,
 ];
 
+// The operands are not said as they should be.
+#[derive(Clone, Copy, PartialEq, Eq, Debug)]
+pub(crate) struct Unsaid;
+
+// A number does not fit its width.
+impl From<TryFromIntError> for Unsaid {
+    fn from(_too_large: TryFromIntError) -> Unsaid {
+        Unsaid
+    }
+}
+
 // Appends a number that fits its width.
-pub(crate) fn pack(out: &mut ArrayVec<u8, LONGEST_COMMAND>, width: Width, value: u64) -> Option<()>
+pub(crate) fn pack(
+    out: &mut ArrayVec<u8, LONGEST_COMMAND>,
+    width: Width,
+    value: u64,
+) -> Result<(), Unsaid>
     requires { array_vec_len out.old + bytes_in width ≤ 52 }
     ensures { Packed (bytes_in width) value out.old.items result out.new.items }
 {
-    Some(match width {
-        Byte => append(out, &u8::try_from(value).ok()?.to_be_bytes()),
-        Pair => append(out, &u16::try_from(value).ok()?.to_be_bytes()),
-        Quad => append(out, &u32::try_from(value).ok()?.to_be_bytes()),
+    match width {
+        Byte => append(out, &u8::try_from(value)?.to_be_bytes()),
+        Pair => append(out, &u16::try_from(value)?.to_be_bytes()),
+        Quad => append(out, &u32::try_from(value)?.to_be_bytes()),
         Sum => append(out, &value.to_be_bytes()),
-    })
+    }
+    Ok(())
 }

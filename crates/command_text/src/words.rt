@@ -22,7 +22,8 @@ fn append_digit(value: u64, b: u8) -> Option<u64>
     value.checked_mul(10)?.checked_add(u64::from(b - b'0'))
 }
 
-// The number in decimal at the front, and what stands behind its digits; none without a digit or past 64 bits.
+// The number in decimal at the front, and what stands behind its digits; none without a digit or past 64 bits. (Digit by
+// digit: the library reads a text that is a number as a whole.)
 pub(crate) fn number(text: &[u8]) -> Option<(u64, &[u8])>
     ensures { Number text.now result }
 {

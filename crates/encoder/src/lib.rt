@@ -10,7 +10,8 @@ use arrayvec::ArrayVec;
 use command::{Command, LONGEST_COMMAND};
 use lines::append;
 
-// The bytes of a command, with an arm for each: its letter, its operands of one byte, and the wider ones.
+// The bytes of a command: its letter, its operands of one byte, and the wider ones. (An arm for each, since a proof
+// would name those of an or-pattern by names that are not in the source.)
 pub fn encode(command: Command) -> ArrayVec<u8, LONGEST_COMMAND>
     ensures { Encoded (meaning_of command.entry) result.items }
 {

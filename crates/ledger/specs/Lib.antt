@@ -1,6 +1,5 @@
 pub mod Auctions
 pub mod Bounds
-pub mod Changes
 pub mod Ledgers
 pub mod Limits
 pub mod Moves

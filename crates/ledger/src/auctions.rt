@@ -24,7 +24,7 @@ pub enum Stage {
 
 // Delivery begins with the hour `first`. `returned` has what waits returned into the auction, by the auction left and
 // the participant.
-#[derive(Clone, Copy)]
+#[derive(Clone, Copy, PartialEq, Eq, Debug)]
 pub struct Auction {
     pub direction: Direction,
     pub first: u8,

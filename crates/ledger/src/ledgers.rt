@@ -9,10 +9,10 @@ use auction::{Product, Sheet};
 use numbering::{AUCTIONS, AuctionNumber, HOURS, PARTICIPANTS, Participant};
 use rights::Hour;
 
-// `receipts` bids were granted, and the first `opened` auctions are there: a count beside a fixed array, since nothing
-// here allocates and eight are the most. `Sound` is asked by calls and is no ghost field: the rules build ledgers as
-// plain records, and each of these would have to carry a proof.
-#[derive(Clone, Copy)]
+// `receipts` bids were granted, and the first `opened` auctions are there: a count beside an array of plain records, as
+// everywhere where the rules bound a number. `Sound` is asked by calls and is no ghost field: the rules build ledgers
+// as plain records, and each of these would have to carry a proof.
+#[derive(Clone, Copy, PartialEq, Eq, Debug)]
 pub struct Ledger {
     pub day: u16,
     pub receipts: u64,

@@ -10,12 +10,14 @@ use super::ledgers::Ledger;
 use numbering::{AuctionNumber, Participant};
 
 impl Ledger {
+    // Whether it takes bids. (Each stage is asked for by a name of its own, as the rules ask.)
     pub fn is_open(&self, a: AuctionNumber) -> bool
         ensures { result ≡ is_open (auction_at self.now a.number).stage }
     {
         matches!(self.auction(a).stage, Stage::Open)
     }
 
+    // Whether it waits for its award.
     pub fn is_sealed(&self, a: AuctionNumber) -> bool
         ensures { result ≡ is_sealed (auction_at self.now a.number).stage }
     {
@@ -29,6 +31,7 @@ impl Ledger {
         matches!(self.auction(a).stage, Stage::Open | Stage::Sealed)
     }
 
+    // Whether it has its price.
     pub fn is_awarded(&self, a: AuctionNumber) -> bool
         ensures { result ≡ is_awarded (auction_at self.now a.number).stage }
     {
@@ -51,7 +54,7 @@ impl Ledger {
         self.sheet(p, a).worst_charge(product)
     }
 
-    // Whether an auction delivers in all hours of a span.
+    // Whether an auction delivers in all these hours. (Two numbers: a span would ask that they lie within the 192.)
     pub fn delivers(&self, a: AuctionNumber, first: u8, hours: u8) -> bool
         ensures { result ≡ not (outside first hours (auction_at self.now a.number).first (auction_at self.now a.number).product.hours) }
     {

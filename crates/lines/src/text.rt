@@ -6,7 +6,7 @@ ghost use Rattle.lines.specs.Page.{spaced_one};
 use arrayvec::ArrayVec;
 use itoa::Buffer;
 
-// Appends bytes that have room.
+// Appends bytes that have room. (The library's call answers an error where there is none; here there is.)
 pub fn append<const N: usize>(bytes: &mut ArrayVec<u8, N>, more: &[u8])
     requires { array_vec_len bytes.old + length more.now ≤ N }
     ensures { bytes.new.items ≡ bytes.old.items ++ more.now }

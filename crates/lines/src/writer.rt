@@ -11,7 +11,7 @@ use command::Unreadable;
 // A letter, a word of three bytes, three numbers of twenty digits, each after a space, and a line feed.
 const LONGEST_LINE: usize = 68;
 
-// The numbers of an answer: at most three. A list of them would need their count beside it.
+// The numbers of an answer: at most three. (An enum, since an answer is copied; a list of the library's is not `Copy`.)
 #[derive(Clone, Copy, PartialEq, Eq, Debug)]
 pub enum Numbers {
     Empty,
@@ -20,7 +20,8 @@ pub enum Numbers {
     Three(u64, u64, u64),
 }
 
-// What a line says of a command. (A letter is any byte, as the page takes any; its own type would ask more of a writer.)
+// What a line says of a command. (A letter and a number are any byte, as the page takes any: types of their own would
+// ask more of whoever writes a line.)
 #[derive(Clone, Copy, PartialEq, Eq, Debug)]
 pub enum Line {
     // It was granted, with this answer.

@@ -1,14 +1,8 @@
--- Which numbers name a participant or an auction.
+-- Which numbers name one of so many participants or auctions, which are numbered from 1.
 use Rattle.std.specs.Prelude.{◌≡◌, ℕ, ◌<◌, ◌⊎◌, Result, MatchResult}
-use Rattle.numbering.specs.declared.auctions.AuctionNumber.{AuctionNumber}
-use Rattle.numbering.specs.declared.auctions.NoAuction.{NoAuction}
-use Rattle.numbering.specs.declared.participants.NoParticipant.{NoParticipant}
-use Rattle.numbering.specs.declared.participants.Participant.{Participant}
+use Rattle.numbering.specs.declared.numbers.NoSuchNumber.{NoSuchNumber}
+use Rattle.numbering.specs.declared.numbers.Number.{Number}
 
--- a number is that of a participant, or it is outside 1 to 12
-abbrev pub NamesParticipant : ℕ → Result Participant NoParticipant → Type 0
-NamesParticipant n r = MatchResult r (λ p. p.number ≡ n) (λ _. (n < 1) ⊎ (12 < n))
-
--- a number is one that an auction may have, or it is outside 1 to 8
-abbrev pub NamesAuction : ℕ → Result AuctionNumber NoAuction → Type 0
-NamesAuction n r = MatchResult r (λ a. a.number ≡ n) (λ _. (n < 1) ⊎ (8 < n))
+-- a number is that of one of them, or it is outside 1 to `most`
+abbrev pub Names : (most : ℕ) → ℕ → Result (Number most) (NoSuchNumber most) → Type 0
+Names most n r = MatchResult r (λ p. p.number ≡ n) (λ _. (n < 1) ⊎ (most < n))

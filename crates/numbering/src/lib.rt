@@ -2,10 +2,11 @@
 
 #![tactic(auto)]
 
-mod auctions;
 mod hours;
-mod participants;
+mod numbers;
 
-pub use auctions::{AUCTIONS, AuctionNumber, NoAuction};
 pub use hours::{HOURS, Span};
-pub use participants::{NoParticipant, PARTICIPANTS, Participant};
+pub use numbers::{
+    AUCTIONS, AuctionNumber, NoAuction, NoParticipant, NoSuchNumber, Number, PARTICIPANTS,
+    Participant,
+};

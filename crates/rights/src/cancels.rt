@@ -7,15 +7,14 @@ ghost use Rattle.rights.specs.Returns.{restored, given_back};
 
 use super::hours::Hour;
 use numbering::{HOURS, PARTICIPANTS, Span};
+use roll::change_each;
 
 // Adds what left one auction's holdings to them again, in one hour.
 fn restore_row(row: &mut [u16; PARTICIPANTS], back: &[u16; PARTICIPANTS])
     requires { mw_of row.old + mw_of back.now ≤ 5000 }
     ensures { row.new ≡ each_with (λ more mw. mw + more) back.now row.old }
 {
-    for (p, mw) in row.iter_mut().enumerate() {
-        *mw += back[p];
-    }
+    change_each(row, back, |mw, more| mw + more);
 }
 
 // The same for all auctions.
@@ -23,9 +22,17 @@ fn restore_hour(hour: &mut Hour, waiting: &Hour)
     requires { Fits waiting.now hour.old }
     ensures { hour.new ≡ restored waiting.now hour.old }
 {
-    for (a, row) in hour.rows.iter_mut().enumerate() {
-        restore_row(row, &waiting.rows[a]);
-    }
+    change_each(
+        &mut hour.rows,
+        &waiting.rows,
+        |mut row, back|
+            requires { mw_of row + mw_of back ≤ 5000 }
+            ensures { result ≡ each_with (λ more mw. mw + more) back row }
+        {
+            restore_row(&mut row, &back);
+            row
+        },
+    );
 }
 
 // Gives all that waits back to the holdings that it left, in each hour.

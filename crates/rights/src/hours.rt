@@ -5,7 +5,8 @@ ghost use Rattle.rights.specs.Returns.{taken, waiting_more};
 
 use numbering::{AUCTIONS, AuctionNumber, PARTICIPANTS, Participant};
 
-// By auction and participant. (A row of rows of rows is built only through a struct.)
+// By auction and participant. (An array of arrays of arrays cannot be built: the inner two stand in this record.
+// An auction and a holder are two parameters, since most callers have them apart.)
 #[derive(Clone, Copy, PartialEq, Eq, Debug)]
 pub struct Hour {
     pub rows: [[u16; PARTICIPANTS]; AUCTIONS],

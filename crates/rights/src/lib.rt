@@ -1,4 +1,5 @@
-// Rights to transmit, by hour, auction and participant.
+// Rights to transmit, by hour, auction and participant: functions over the hours, which a ledger keeps as a plain array.
+// Those over a span are one loop each, and differ in what its line does with an hour.
 
 #![tactic(auto)]
 

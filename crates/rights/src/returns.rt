@@ -7,6 +7,7 @@ ghost use Rattle.rights.specs.Returns.{returned, waits_of};
 
 use super::hours::Hour;
 use numbering::{AuctionNumber, HOURS, PARTICIPANTS, Participant, Span};
+use roll::change_each;
 
 // Takes a participant's MW of one auction out of its holdings in each hour.
 pub fn return_out(
@@ -30,9 +31,7 @@ fn add_row(sums: &mut [u32; PARTICIPANTS], row: &[u16; PARTICIPANTS])
     ensures value { sums.new ≡ each_with (λ mw sum. sum + mw) row.now sums.old }
     ensures within { (m : ℕ) → AtMost m sums.old → AtMost (m + 65535) sums.new }
 {
-    for (p, sum) in sums.iter_mut().enumerate() {
-        *sum += u32::from(row[p]);
-    }
+    change_each(sums, row, |sum, mw| sum + u32::from(mw));
 }
 
 // What each participant has waiting, over all auctions left.

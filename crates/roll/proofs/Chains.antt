@@ -1,13 +1,14 @@
 -- What chains of iterators give, in the words of the rules.
 use Rattle.std.proofs.Common.{◌≡◌, ℕ, zero, suc, ◌+◌, ◌-◌, ◌<◌, ◌≤◌, List, [], ◌∷◌, length, map, max, refl, sym, ap, ◌∙◌, arith, get_or, subst, inl, inr}
-use Rattle.std.specs.List.{sum_by, fold}
-use Rattle.std.specs.Array.{IsMapOf, MapsFrom}
+use Rattle.std.specs.List.{sum_by, fold, range_with_len}
+use Rattle.std.specs.Array.{IsFromFnResult, IsFromFnResultFrom, IsMapOf, MapsFrom}
 use Rattle.std.specs.Fn.{Called}
 use denote.Param.Members.{Mut}
 use Rattle.std.proofs.lemmas.List.Recursion.{is_sum_by}
 use Rattle.std.proofs.lemmas.Bool.{cases_eq}
 use Rattle.std.proofs.lemmas.List.{ext_get_or, length-map}
 use Rattle.std.proofs.Math.ListN.{get_or-map}
+use Rattle.std.proofs.lemmas.List.FromFn.{get_or-map-range_with_len, length-range_with_len}
 use Rattle.roll.specs.Sums.{sum_of, most_of}
 
 -- `map(..).sum()`
@@ -38,6 +39,24 @@ module _ {F A B : Type 0} (g : Mut F (A × Unit {0}) B) (h : A → B) (f : F) (c
       let size = length-map xs h in
       let long' = m.long in
       ext_get_or (h d) ys (map h xs) (omega arith) (λ i l. mapped_from n 0 f refl m.each i d (h d) (omega arith) (omega arith) ∙ sym (get_or-map h xs i d))
+
+-- an array made by a closure that computes h of each place and stays as it is
+module _ {F B : Type 0} (g : Mut F (ℕ × Unit {0}) B) (h : ℕ → B) (f : F) (computes : (i : ℕ) (r : B) (q : F) → Called g f (i, tt) r q → (q ≡ f) × (r ≡ h i)) (ys : List B) where
+  made_from : (n i : ℕ) (p : F) → p ≡ f → IsFromFnResultFrom g p ys i n → (j : ℕ) (e : B) → i ≤ j → j < i + n → get_or ys j e ≡ h j
+  made_from zero i p same m j e low high = absurd (omega arith)
+  made_from (suc n) i p same (q, y, ey, called, rest) j e low high =
+      let c : (q ≡ f) × (y ≡ h i) = computes i y q (subst (λ z. Called g z (i, tt) y q) same called) in
+      elim (cases_eq j i) [
+        | inl k ↦ rw k (ey.1 e ∙ c.1)
+        | inr k ↦ made_from n (i + 1) q c.0 rest j e (omega arith) (omega arith)
+      ]
+
+  pub made : (n : ℕ) (e : B) → IsFromFnResult g f ys n → ys ≡ map h (range_with_len 0 n)
+  made n e m =
+      let size = length-map (range_with_len 0 n) h in
+      let span = length-range_with_len 0 n in
+      let long = m.long in
+      ext_get_or e ys (map h (range_with_len 0 n)) (omega arith) (λ j l. made_from n 0 f refl m.each j e (omega arith) (omega arith) ∙ sym (get_or-map-range_with_len h 0 n j j e (omega arith) (omega arith)))
 
 -- `fold` that takes each off, down to 0
 pub less_each : {X : Type 0} (f : X → ℕ) (xs : List X) (n : ℕ) → fold (λ a x. a - f x) n xs ≡ n - sum_of f xs

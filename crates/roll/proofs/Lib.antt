@@ -4,6 +4,7 @@ pub mod Changes
 pub mod Clear
 pub mod InPlace
 pub mod Insertions
+pub mod Lasts
 pub mod Maxima
 pub mod Moves
 pub mod Orders

@@ -30,6 +30,15 @@ module _ {V X : Type 0} (f : V → X → X) where
       let v : y ≡ f (get_or vs i e) (get_or xs i d) = new ∙ ap (f (get_or vs i e)) r in
       rw (add-one, with_suc vs xs e d i h) (cc)
 
+  -- its end
+  pub with_end : (vs : List V) (xs : List X) (i : ℕ) → length xs ≤ i → each_with f (take i vs) xs ≡ each_with f vs xs
+  with_end [] xs zero h = refl
+  with_end [] xs (suc i) h = refl
+  with_end (v ∷ vs) [] zero h = refl
+  with_end (v ∷ vs) [] (suc i) h = refl
+  with_end (v ∷ vs) (x ∷ xs) zero h = absurd (omega arith)
+  with_end (v ∷ vs) (x ∷ xs) (suc i) h = ap {B = List X} (λ l. f v x ∷ l) (with_end vs xs i (le_of_suc-le-suc h))
+
   -- the record at a place, and a number of it: at most what it was and what the value adds
   pub with_at : (vs : List V) (xs : List X) (e : V) (d : X) (k : ℕ) → k < length vs → k < length xs → get_or (each_with f vs xs) k d ≡ f (get_or vs k e) (get_or xs k d)
   with_at [] xs e d k h l = absurd (omega arith)

@@ -2,11 +2,13 @@
 
 #![tactic(auto)]
 
+mod changing;
 mod places;
 mod record;
 mod rolls;
 mod spend;
 
+pub use changing::change_each;
 pub use places::{insert_in, place_behind, place_of};
 pub use record::{Ranked, Spendable};
 pub use rolls::{Full, Roll};

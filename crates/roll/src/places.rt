@@ -13,13 +13,7 @@ pub fn place_behind<T, F: Fn(&T) -> bool>(records: &[T], passes: F) -> usize
     ensures value { (test : T → Bool) → Computes F.Fn passes test → result ≡ behind test records.now }
     ensures within { result ≤ length records.now }
 {
-    let mut place = 0;
-    for (i, x) in records.iter().enumerate() {
-        if passes(x) {
-            place = i + 1;
-        }
-    }
-    place
+    records.iter().rposition(passes).map_or(0, |i| i + 1)
 }
 
 // The place behind all records that come first or are level with `x`.

@@ -1,7 +1,8 @@
 // What a record brings to stand in a roll: an order, and, where sums are spent along it, an amount.
 ghost use Rattle.std.specs.Prelude.{◌≡◌, ℕ, ◌≤◌, Bool, true, false};
 
-// A record with an order: of two, one comes first or they are level.
+// A record with an order: of two, one comes first or they are level. (Not `Ord`, in which only equal records are level:
+// bids of one price stand as they arrived, whatever their MW.)
 pub trait Ranked: Copy {
     // The one comes first or is level with the other.
     ghost first: { Self → Self → Bool };

@@ -1,8 +1,9 @@
 // The roll itself: records in the front of the places that an owner lends.
 ghost use Rattle.std.specs.Prelude.{◌≡◌, ℕ};
 
-// The first `len` places hold records, the others are free. That `len` fits the places is asked by the calls that need
-// it: as a fact of the type, `over` would ask it of every lender.
+// The first `len` places hold records, the others are free. (Lent places and a count, since the records that own a roll
+// are plain and copied: a list of the library's is not `Copy`.) That `len` fits the places is asked by the calls that
+// need it: as a fact of the type, `over` would ask it of every lender.
 #[derive(Drop)]
 pub struct Roll<'a, T> {
     pub(crate) places: &'a mut [T],

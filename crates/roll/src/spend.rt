@@ -18,7 +18,8 @@ pub fn left_over<T: Spendable>(records: &[T], sum: u64) -> u64
         .fold(sum, |left, x| left.saturating_sub(x.amount_of()))
 }
 
-// How many records a sum empties, and what is left of it then.
+// How many records a sum empties, and what is left of it then. (A loop, since it answers from within where the sum
+// gives out.)
 fn emptied<T: Spendable>(records: &[T], sum: u64) -> (usize, u64)
     ensures { Emptied T.amount T.lowered sum records.now result.0 result.1 }
 {

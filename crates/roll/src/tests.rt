@@ -4,7 +4,7 @@ ghost use Rattle.std.proofs.Common.{rules};
 
 use super::*;
 
-#[derive(Clone, Copy)]
+#[derive(Clone, Copy, PartialEq, Eq, Debug)]
 struct Slip {
     number: u8,
     cents: u64,
@@ -90,4 +90,16 @@ fn what_stands_before_a_part_stays(rt: HostRuntime) {
     assert_eq!(rt; roll.spend(20), (20, 0));
     assert_eq!(rt; roll.len(), 1);
     assert_eq!(rt; [places[0].cents, places[1].cents], [10, 30]);
+}
+
+#[test]
+fn each_is_changed_by_what_stands_at_its_place(rt: HostRuntime) {
+    let mut slips = [numbered(1, 10), numbered(2, 20), numbered(3, 30)];
+    change_each(
+        &mut slips,
+        &[5, 6, 7],
+        |slip, cents| numbered(slip.number, cents),
+    );
+    assert_eq!(rt; [slips[0].cents, slips[1].cents, slips[2].cents], [5, 6, 7]);
+    assert_eq!(rt; slips[2].number, 3);
 }

@@ -69,6 +69,7 @@ impl Refusal {
         }
     }
 
+    // Who refuses: the book, or the collateral whose refusal it passes on.
     pub fn layer(&self) -> Layer
         ensures { result ≡ layer_of self.now }
     {
@@ -79,7 +80,8 @@ impl Refusal {
     }
 }
 
-// A refusal of the collateral is the book's refusal 12, with its cause.
+// A refusal of the collateral is the book's refusal 12, with its cause. (By hand: what a derived `From` gives is not
+// known to a contract.)
 impl From<Cause> for Refusal {
     ghost from_gives = { λ e r. r ≡ Collateral e };
 
@@ -88,7 +90,7 @@ impl From<Cause> for Refusal {
     }
 }
 
-// A number that no participant has is the book's refusal 1.
+// A number that no participant has is the book's refusal 1. (By hand for the same reason.)
 impl From<NoParticipant> for Refusal {
     ghost from_gives = { λ _ r. r ≡ Participant };
 

@@ -11,7 +11,7 @@ use collateral::kind::Collateral;
 use command::Command;
 use lines::Numbers;
 
-// The call that a command asks for, and what is shown of its answer.
+// The call that a command asks for, an arm for each of the fifteen, and what is shown of its answer.
 pub(crate) fn perform<C: Collateral>(
     book: &mut Book<C>,
     command: Command,

@@ -14,7 +14,7 @@ pub enum Refused {
 }
 
 impl Refused {
-    // The number of the table of refusals.
+    // The number of the table of refusals. (A match: a case that carries another has no plain discriminant.)
     pub fn number(self) -> u8
         ensures { result ≡ number_of self }
     {
@@ -34,6 +34,7 @@ impl Refused {
         }
     }
 
+    // Who refuses: the reader, the book, or the collateral.
     pub fn layer(self) -> Layer
         ensures { result ≡ layer_of self }
     {
@@ -44,6 +45,7 @@ impl Refused {
     }
 }
 
+// (By hand: what a derived `From` gives is not known to a contract.)
 impl From<Unreadable> for Refused {
     ghost from_gives = { λ e r. r ≡ Reader e };
 
@@ -52,6 +54,7 @@ impl From<Unreadable> for Refused {
     }
 }
 
+// (By hand for the same reason.)
 impl From<Refusal> for Refused {
     ghost from_gives = { λ e r. r ≡ Book e };
 

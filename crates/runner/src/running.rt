@@ -19,7 +19,7 @@ use rules::Layer;
 // The most bytes of an input.
 pub const MOST_INPUT: usize = 60_000;
 
-// Room for the longest line.
+// Room for the longest line that a call of the book can have.
 const LINE_ROOM: usize = 64;
 
 // Writes a line into the page from `at`, and answers the place behind it.
@@ -43,7 +43,8 @@ fn next<'a>(input: &'a [u8], place: usize) -> Result<Option<Found<'a>>, Unreadab
     command::read(input, place).transpose()
 }
 
-// The line of a call: `ok` and its numbers, or `no` and those of the refusal, with the cause where the collateral refused.
+// The line of a call: `ok` and its numbers, or `no` and those of the refusal, with the cause where the collateral
+// refused.
 fn answer_line(letter: u8, answer: Result<Numbers, Refused>) -> Line
     ensures value { result ≡ line_shown letter answer }
     ensures room { FitInLine answer → length (text_of result) ≤ 64 }
@@ -61,13 +62,14 @@ fn answer_line(letter: u8, answer: Result<Numbers, Refused>) -> Line
     }
 }
 
+// The answer without its numbers.
 fn outcome(answer: Result<Numbers, Refused>) -> Outcome
     ensures { result ≡ outcome_shown answer }
 {
     Some(answer.map(|_| ()))
 }
 
-// Says why the reader refused, where the page has room: a `?` line with the place of the letter.
+// Says why the reader refused: a `?` line with the place of the letter; nothing where the page ends.
 fn refuse(page: &mut [u8], at: usize, why: Unreadable, place: usize) -> usize
     requires { at + 64 ≤ length page.old }
     ensures after { page.new ≡ laid at (reader_line why place) page.old }
@@ -89,8 +91,8 @@ fn refuse(page: &mut [u8], at: usize, why: Unreadable, place: usize) -> usize
     )
 }
 
-// Runs the command at a place of the input over the book, and writes its line into the page from `at`. (An input with its
-// place and a page with its place are what the office's calls are stated by.)
+// Runs the command at a place of the input over the book, and writes its line into the page from `at`. (The places are
+// operands, as the rules state them: they come in as the call before answered them.)
 pub fn run_one<C: Collateral>(
     book: &mut Book<C>,
     input: &[u8],

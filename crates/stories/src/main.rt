@@ -1,5 +1,6 @@
 // Tells stories on standard input: a line that begins with `=` is a heading, and each line below it a command, as text,
-// or, behind a `!`, bytes as they stand. Each story is run as a command file over a new book, and its lines are printed.
+// or, behind a `!`, bytes as they stand. Each story is run as a command file over a new book, and its lines are
+// printed.
 
 #![tactic(auto)]
 

@@ -10,16 +10,16 @@ use Rattle.command_text.proofs.line.encode_line.Goals as goal
 pub returns-in_default-try_from-clause-value : goal.returns-in_default-try_from-clause-value
 returns-in_default-try_from-clause-value c = line_unsaid c.args.text.now c.skip_blanks.result.now (omega arith) c.skip_blanks.ensures c.if-first-eq35.false c.in_default-try_from.ensures.1
 
-pub returns-in-Some : goal.returns-in-Some
-returns-in-Some c =
+pub returns-in-Ok-operands : goal.returns-in-Ok-operands
+returns-in-Ok-operands c =
     let said = line_said c.args.text.now c.skip_blanks.result.now _ _ (omega arith) c.skip_blanks.ensures c.if-first-eq35.false c.in-Ok.ensures c.widths.ensures.value in
-    let some = line_some (byte_of c.in-Ok.letter) c.append.new.bytes.items c.operands.new.out.items _ (total (map bytes_in c.widths.result.now)) (search rules) (length_operands _ _) c.in-Some.ensures in
+    let some = line_some (byte_of c.in-Ok.letter) c.append.new.bytes.items c.operands.new.out.items _ (total (map bytes_in c.widths.result.now)) (search rules) (length_operands _ _) c.in-Ok-operands.ensures in
     let same = some.0 ∙ sym said in
     record { value = same; within = omega (arith, some.1, c.widths.ensures.room); back = subst OneCommand (sym same) (one_command c.args.text.now) }
 
-pub returns-in-None-clause-value : goal.returns-in-None-clause-value
-returns-in-None-clause-value c =
+pub returns-in-Err-clause-value : goal.returns-in-Err-clause-value
+returns-in-Err-clause-value c =
     let said = line_said c.args.text.now c.skip_blanks.result.now _ _ (omega arith) c.skip_blanks.ensures c.if-first-eq35.false c.in-Ok.ensures c.widths.ensures.value in
-    let none = line_none (byte_of c.in-Ok.letter) _ c.operands.new.out.items _ c.in-None.ensures ∙ sym said in
+    let none = line_none (byte_of c.in-Ok.letter) _ c.operands.new.out.items _ _ c.in-Err.ensures ∙ sym said in
     let first = c.in-Ok.ensures in
     cc

@@ -1,27 +1,14 @@
-use Rattle.std.proofs.Common.{◌≡◌, ◌≤◌, ◌+◌, cond, refl, sym, ap, ◌∙◌, drop, arith, rules}
-use Rattle.std.proofs.lemmas.List.{at_drop_all}
+use Rattle.std.proofs.Common.{◌≡◌, ◌+◌, ap, refl, ◌∙◌, subst, rules}
+use Rattle.std.specs.Iterator.Runs.{ItemsMapToReversed}
+use Rattle.std.specs.Option.{option_map_or}
 use Rattle.roll.specs.Rolls.{behind}
-use Rattle.roll.proofs.Behind.{behind_more, onward}
+use Rattle.roll.proofs.Lasts.{last_found}
 use Rattle.roll.proofs.places.place_behind.Goals as goal
 
-pub loop-i-preserved : goal.loop-i-preserved
-loop-i-preserved g c =
-    let i = c.loop-i.i in
-    let place = c.loop-i.place in
-    let xs = c.args.records.now in
-    let x = c.index-records-i.result in
-    let low : c.if-passes.place ≤ i + 1 = elim c.if-passes.branch [ goal.then-passes w ↦ omega arith | goal.else-passes w ↦ omega arith ] in (
-      low,
-      λ test k.
-          let r : c.passes.result ≡ test x = k x c.passes.result (record { shown = _; shows = refl; says = record { met = c.passes.ensures } }) in
-          let t : cond (test x) (i + 1) place ≡ c.if-passes.place = elim c.if-passes.branch [ goal.then-passes w ↦ search rules | goal.else-passes w ↦ search rules ] in
-          c.loop-i.invariant.1 test k ∙ (behind_more test xs i place x c.loop-i-test.true c.index-records-i.is ∙ ap (λ z. onward (i + 1) z (behind test (drop (i + 1) xs))) t),
-    )
-
-pub returns : goal.returns
-returns g c =
-    let xs = c.args.records.now in
-    record {
-      value = λ test k. sym (c.loop-i.invariant.1 test k ∙ at_drop_all (λ zs. onward c.loop-i.i c.loop-i.place (behind test zs)) xs c.loop-i.i c.loop-i-test.false);
-      within = omega arith;
-    }
+pub returns-clause-value : goal.returns-clause-value
+returns-clause-value g c test k =
+    let ran = c.rposition.ensures.runs in
+    let p = ran.0 in
+    let read = subst (λ s. ItemsMapToReversed p (λ y. y.now) s.rest.now) ran.1 (c.iter.ensures.runs_back p p.seen) in
+    let one_on : c.map_or.result ≡ option_map_or (λ i. i + 1) c.rposition.result 0 = search rules in
+    one_on ∙ last_found p c.iter.result.rest.now _ _ test read (λ x r called. k x.now r (record { shown = x; shows = refl; says = search rules })) (λ a r f' called. search rules) c.rposition.result c.rposition.ensures.bound ran.2 ∙ ap (behind test) c.iter.ensures.rest
