@@ -3,7 +3,7 @@ use Rattle.std.proofs.Common.{◌≡◌, ℕ, ◌+◌, ◌-◌, ◌*◌, ◌<◌
 use Rattle.std.proofs.lemmas.Bool.{cond_both}
 use Rattle.command_text.specs.Words.{digit, value_on}
 
-grows : (s : List ℕ) (n : ℕ) → n ≤ value_on n s
+pub grows : (s : List ℕ) (n : ℕ) → n ≤ value_on n s
 grows [] n = omega arith
 grows (b ∷ bs) n = let k = grows bs (n * 10 + (b - 48)) in cond_both (digit b) _ _ (λ x. n ≤ x) (λ _. omega arith) (λ _. omega arith)
 

@@ -1,9 +1,10 @@
 -- What a line is written as, the reader reads as one whole command.
-use Rattle.std.proofs.Common.{◌≡◌, ℕ, ◌+◌, ◌≤◌, Bool, true, false, cond, eqb, List, [], ◌∷◌, ◌++◌, length, replicate, Some, None, Ok, Option, Result, sym, refl, ap, ◌∙◌, subst, arith, length-append, eqb-true, le-leb}
+use Rattle.std.proofs.Common.{◌≡◌, ℕ, zero, suc, ◌+◌, ◌≤◌, Bool, true, false, cond, eqb, List, [], ◌∷◌, ◌++◌, length, get_or, take, drop, replicate, Some, None, Ok, Option, Result, sym, refl, ap, ◌∙◌, subst, arith, length-append, length-drop, eqb-true, le-leb}
 use Rattle.command.specs.declared.unreadable.Unreadable.{Unreadable}
 use Rattle.std.proofs.lemmas.Bool.{cond-true, cond_both}
+use Rattle.std.proofs.lemmas.List.{get_or_append_left, drop-append-le, take-append-le}
 use Rattle.command.specs.Meaning.{Meaning}
-use Rattle.command.specs.Table.{Row, table, total}
+use Rattle.command.specs.Table.{Row, begins, number_at, part, table, total}
 use Rattle.command.specs.Reading.{Read, by_letter, by_rows, whole}
 use Rattle.encoder.specs.Encoding.{big_endian}
 use Rattle.encoder.proofs.Back.{length_big_endian, placed}
@@ -40,6 +41,47 @@ got_rows : (rs : List Row) (l : ℕ) (s ws : List ℕ) → said_in rs l ≡ Some
 got_rows [] l s ws e h = let none : ◌≡◌ {A = ℕ} 0 1 = cc in absurd (omega arith)
 got_rows (r ∷ rs) l s ws e h = got_row (eqb l r.letter) r (said_in rs l) (by_rows rs l s) s ws e h (λ k. got_rows rs l s ws k h)
 
+-- the operands of a command end where it ends
+begins_within : (ws : List ℕ) (at k : ℕ) → begins ws at k + get_or ws k 0 ≤ at + total ws
+begins_within [] at k = omega arith
+begins_within (w ∷ ws) at zero = omega arith
+begins_within (w ∷ ws) at (suc k) = omega (arith, begins_within ws (at + w) k)
+
+-- so what follows says nothing of them
+number_more : (s rest : List ℕ) (at w : ℕ) → at + w ≤ length s → number_at (s ++ rest) at w ≡ number_at s at w
+number_more s rest at zero h = refl
+number_more s rest at (suc w) h =
+    let first = get_or_append_left s rest 0 at (omega arith) in
+    let more = number_more s rest (suc at) w (omega arith) in
+    cc
+
+part_more : (s rest : List ℕ) (at w : ℕ) → at + w ≤ length s → part at w (s ++ rest) ≡ part at w s
+unfolding part
+part_more s rest at w h =
+    let long = length-drop at s in
+    ap (take w) (drop-append-le at s rest (omega arith)) ∙ take-append-le w (drop at s) rest (omega arith)
+
+whole_more : (r : Row) (s rest : List ℕ) → 1 + total r.widths ≤ length s → whole r (s ++ rest) ≡ whole r s
+whole_more r s rest h =
+    let room : 1 + total r.widths ≤ length (s ++ rest) = simp length-append (omega arith) in
+    let e : (k : ℕ) → number_at (s ++ rest) (begins r.widths 1 k) (get_or r.widths k 0) ≡ number_at s (begins r.widths 1 k) (get_or r.widths k 0) = λ k. number_more s rest _ _ (omega (arith, begins_within r.widths 1 k)) in
+    let f : (k : ℕ) → part (begins r.widths 1 k) (get_or r.widths k 0) (s ++ rest) ≡ part (begins r.widths 1 k) (get_or r.widths k 0) s = λ k. part_more s rest _ _ (omega (arith, begins_within r.widths 1 k)) in
+    cond-true _ _ _ (le-leb (1 + total r.widths) (length (s ++ rest)) room)
+    ∙ (λ i. Ok (record { meaning = r.says (λ k. e k i) (λ k. f k i); bytes = 1 + total r.widths }))
+    ∙ sym (cond-true _ _ _ (le-leb (1 + total r.widths) (length s) h))
+
+more_row : (b : Bool) (r : Row) (o : Option (List ℕ)) (x y : Result Read Unreadable) (s rest ws : List ℕ) → cond b (Some (in_text r.widths)) o ≡ Some ws → 1 + total ws ≤ length s → (o ≡ Some ws → x ≡ y) → cond b (whole r (s ++ rest)) x ≡ cond b (whole r s) y
+more_row true r o x y s rest ws e h k =
+    let same : in_text r.widths ≡ ws = cc in
+    let size = sym (ap total same) ∙ total_in_text r.widths in
+    whole_more r s rest (omega arith)
+more_row false r o x y s rest ws e h k = k e
+
+-- a command that is there whole is read as it is, whatever follows
+rows_more : (rs : List Row) (l : ℕ) (s rest ws : List ℕ) → said_in rs l ≡ Some ws → 1 + total ws ≤ length s → by_rows rs l (s ++ rest) ≡ by_rows rs l s
+rows_more [] l s rest ws e h = let none : ◌≡◌ {A = ℕ} 0 1 = cc in absurd (omega arith)
+rows_more (r ∷ rs) l s rest ws e h = more_row (eqb l r.letter) r (said_in rs l) _ _ s rest ws e h (λ k. rows_more rs l s rest ws k h)
+
 long_behind : (w n : ℕ) (o : Option (List ℕ)) (t : List ℕ) (k : ℕ) → behind (big_endian w n) o ≡ Some t → ((u : List ℕ) → o ≡ Some u → length u ≡ k) → length t ≡ w + k
 long_behind w n None t k e f = let none : ◌≡◌ {A = ℕ} 0 1 = cc in absurd (omega arith)
 long_behind w n (Some u) t k e f =
@@ -61,13 +103,12 @@ length_operands (w ∷ ws) text t e =
 
 operands_command : (l : ℕ) (ws : List ℕ) (o : Option (List ℕ)) → said l ≡ Some ws → ((t : List ℕ) → o ≡ Some t → length t ≡ total ws) → OneCommand (by_operands l o)
 operands_command l ws None e f = tt
-operands_command l ws (Some t) e f = λ before rest.
-    let s : List ℕ = l ∷ (t ++ rest) in
+operands_command l ws (Some t) e f =
+    let s : List ℕ = l ∷ t in
     let size = f t refl in
-    let room : 1 + total ws ≤ length s = simp length-append (omega arith) in
-    let all : 1 + total ws ≡ length (l ∷ t) = omega arith in
-    let g = subst (λ n. Got n (by_letter l s)) all (got_rows table l s ws e room) in
-    (g.0, placed before s _ (omega arith) g.1)
+    let all : 1 + total ws ≡ length s = omega arith in
+    let g = subst (λ n. Got n (by_letter l s)) all (got_rows table l s ws e (omega arith)) in
+    (g.0, λ before rest. placed before (s ++ rest) _ (simp length-append (omega arith)) (rows_more table l s rest ws e (omega arith) ∙ g.1))
 
 widths_command : (l : ℕ) (text : List ℕ) (o : Option (List ℕ)) → said l ≡ o → OneCommand (by_widths l text o)
 widths_command l text None e = tt

@@ -1,13 +1,12 @@
 -- A line of text: a letter of the table, and a number for each of its operands.
-use Rattle.std.specs.Prelude.{◌≡◌, ℕ, ◌+◌, ◌^◌, ◌<◌, Bool, true, cond, ◌&&◌, List, [], ◌∷◌, ◌++◌, length, replicate, Some, None, Ok, Err, Option, Result, ◌==◌, nat_lt}
+use Rattle.std.specs.Prelude.{◌≡◌, ℕ, ◌^◌, ◌<◌, Bool, true, cond, ◌&&◌, List, [], ◌∷◌, ◌++◌, take, replicate, Some, None, Ok, Err, Option, Result, ◌==◌, nat_lt}
 use Rattle.command.specs.Meaning.{Meaning}
-use Rattle.command.specs.Reading.{reading}
 use Rattle.command.specs.Table.{Row, byte, table}
-use Rattle.encoder.specs.Encoding.{big_endian}
-use Rattle.arrayvec.specs.ArrayVec.{ArrayVec, array_vec_len}
+use Rattle.encoder.specs.Encoding.{ReadsBack, big_endian}
 use Rattle.command_text.specs.Words.{past_blanks, past_digits, starts_digit, value_on}
 use Rattle.command_text.specs.declared.line.Expected.{Expected}
 use Rattle.command_text.specs.declared.line.Expected.TheVariants.{Letter, Operands}
+use Rattle.command_text.specs.declared.packet.Packet.{Packet}
 use Rattle.command_text.specs.declared.widths.Unsaid.{Unsaid}
 use Rattle.command_text.specs.declared.widths.Width.{Width}
 use Rattle.command_text.specs.declared.widths.Width.TheVariants.{Byte, Pair, Quad, Sum}
@@ -70,13 +69,13 @@ abbrev pub line_bytes : List ℕ → Result (List ℕ) Expected
 line_bytes text = from_word (past_blanks text)
 
 -- what the answer stands for
-abbrev pub packet_of : Result (ArrayVec ℕ) Expected → Result (List ℕ) Expected
-packet_of (Ok p) = Ok p.items
+abbrev pub packet_of : Result Packet Expected → Result (List ℕ) Expected
+packet_of (Ok p) = Ok (take p.size p.bytes)
 packet_of (Err e) = Err e
 
 -- how many bytes the answer has
-abbrev pub size_of : Result (ArrayVec ℕ) Expected → ℕ
-size_of (Ok p) = array_vec_len p
+abbrev pub size_of : Result Packet Expected → ℕ
+size_of (Ok p) = p.size
 size_of (Err e) = 0
 
 -- a number that fits w bytes stands behind those before it
@@ -91,10 +90,8 @@ Scanned None out (Ok done) out' = ⊥
 Scanned (Some t) out (Err e) out' = ⊥
 Scanned (Some t) out (Ok done) out' = out' ≡ out ++ t
 
--- wherever these bytes stand, and whatever follows them, they are read as one command that ends where they end
+-- these bytes are those of a command: wherever they stand, and whatever follows them, they are read as it, up to their end
 abbrev pub OneCommand : Result (List ℕ) Expected → Type 0
 OneCommand (Err e) = Unit {0}
 OneCommand (Ok []) = Unit {0}
-OneCommand (Ok (l ∷ t)) =
-    (before rest : List ℕ) →
-    (m : Meaning) × (reading (before ++ (l ∷ t ++ rest)) (length before) ≡ Some (Ok (record { meaning = m; next = length before + length (l ∷ t) })))
+OneCommand (Ok (l ∷ t)) = (m : Meaning) × ReadsBack m (l ∷ t)

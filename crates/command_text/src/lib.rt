@@ -3,8 +3,10 @@
 #![tactic(auto)]
 
 mod line;
+mod packet;
 mod usage;
 mod widths;
 mod words;
 
 pub use line::{Expected, encode_line};
+pub use packet::Packet;

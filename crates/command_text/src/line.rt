@@ -4,6 +4,7 @@ ghost use Rattle.arrayvec.specs.ArrayVec.{array_vec_len};
 ghost use Rattle.command.specs.Table.{total};
 ghost use Rattle.command_text.specs.Lines.{OneCommand, Scanned, bytes_in, ends, line_bytes, operand_bytes, packet_of, size_of};
 
+use crate::packet::Packet;
 use crate::widths::{Unsaid, Width, pack, widths};
 use crate::words::{number, skip_blanks};
 use arrayvec::ArrayVec;
@@ -19,24 +20,24 @@ pub enum Expected {
 }
 
 // The bytes of the command that a line says, none for a line that says nothing: a blank one, or a comment behind `#`.
-pub fn encode_line(text: &[u8]) -> Result<ArrayVec<u8, LONGEST_COMMAND>, Expected>
+pub fn encode_line(text: &[u8]) -> Result<Packet, Expected>
     ensures value { packet_of result ≡ line_bytes text.now }
     ensures within { size_of result ≤ 52 }
     ensures back { OneCommand (packet_of result) }
 {
     let mut bytes = ArrayVec::new();
     let [first, rest @ ..] = skip_blanks(text) else {
-        return Ok(bytes);
+        return Ok(Packet::of(&bytes));
     };
     if *first == b'#' {
-        return Ok(bytes);
+        return Ok(Packet::of(&bytes));
     }
     let Ok(letter) = Letter::try_from(*first) else {
         return Err(Expected::Letter);
     };
     append(&mut bytes, &[*first]);
     match operands(rest, widths(letter), &mut bytes) {
-        Ok(()) => Ok(bytes),
+        Ok(()) => Ok(Packet::of(&bytes)),
         Err(Unsaid) => Err(Expected::Operands { letter: *first }),
     }
 }

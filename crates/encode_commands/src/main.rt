@@ -27,7 +27,7 @@ fn run(rt: &HostRuntime) -> Result<(), Stop> {
             number: i.saturating_add(1),
             expected,
         })?;
-        out.write_all(&command)?;
+        out.write_all(command.as_slice())?;
     }
     Ok(())
 }

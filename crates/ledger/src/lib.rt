@@ -17,4 +17,5 @@ mod views;
 
 pub use auctions::{Auction, Direction, Stage};
 pub use ledgers::Ledger;
+pub use numbering::{AuctionNumber, Participant, Span};
 pub use stages::{Turn, WrongStage};

@@ -1,5 +1,5 @@
 -- How long a line can be.
-use Rattle.std.proofs.Common.{ℕ, suc, ◌*◌, ◌^◌, ◌<◌, ◌≤◌, List, [], ◌∷◌, length, get_or, Some, None, codes, arith, length-append}
+use Rattle.std.proofs.Common.{ℕ, ◌*◌, ◌^◌, ◌<◌, ◌≤◌, List, [], ◌∷◌, length, Some, None, codes, arith, length-append}
 use Rattle.std.proofs.lemmas.Fmt.{length-decimal-le}
 use Rattle.lines.specs.declared.writer.Line.{Line}
 use Rattle.lines.specs.declared.writer.Numbers.{Numbers}
@@ -11,17 +11,6 @@ use Rattle.lines.specs.Lines.{Modest, all_below, numbers_in, text_of}
 use Rattle.lines.specs.Page.{spaced}
 use Rattle.command.specs.Unreadable.{number_of}
 use Rattle.lines.proofs.Lay.{length_line}
-
-wide_room : (ns : List ℕ) → ((i : ℕ) → get_or ns i 0 < 2 ^ 64) → length (spaced ns) ≤ 21 * length ns
-wide_room [] k = omega arith
-wide_room (n ∷ ns) k =
-    let d = length-decimal-le 20 n (omega arith) (omega (arith, k 0)) (k 0) in
-    let r = wide_room ns (λ i. k (suc i)) in
-    simp length-append (omega arith)
-
--- three numbers of 64 bits with their spaces
-pub at_most_63 : (ns : List ℕ) → length ns ≤ 3 → ((i : ℕ) → get_or ns i 0 < 2 ^ 64) → length (spaced ns) ≤ 63
-at_most_63 ns h k = let r = wide_room ns k in omega arith
 
 numbers_room : (ns : List ℕ) → all_below (10 ^ 18) ns → length (spaced ns) ≤ 19 * length ns
 numbers_room [] h = omega arith

@@ -3,13 +3,8 @@ ghost use Rattle.std.specs.Prelude.{◌≡◌, ◌≤◌, length, codes};
 ghost use Rattle.lines.specs.Lines.{Modest, line, numbers_in, text_of};
 ghost use Rattle.lines.specs.Page.{laid};
 
-use crate::page::put_text;
-use crate::text::{append, append_number};
-use arrayvec::ArrayVec;
+use crate::page::{put_numbers, put_text};
 use command::Unreadable;
-
-// A letter, a word of three bytes, three numbers of twenty digits, each after a space, and a line feed.
-const LONGEST_LINE: usize = 68;
 
 // The numbers of an answer: at most three. (An enum, since an answer is copied; a list of the library's is not `Copy`.)
 #[derive(Clone, Copy, PartialEq, Eq, Debug)]
@@ -51,26 +46,20 @@ impl Line {
         ensures within { result ≤ length part.old }
         ensures bound { Modest self → result ≤ 62 }
     {
-        put_text(part, 0, self.text().as_slice())
-    }
-
-    // The line as a text.
-    fn text(self) -> ArrayVec<u8, LONGEST_LINE>
-        ensures { result.items ≡ text_of self }
-    {
         match self {
-            Line::Granted { letter, answer } => granted(letter, answer),
+            Line::Granted { letter, answer } => write_answer(part, letter, answer),
             Line::Refused {
                 letter,
                 number,
                 cause: None,
-            } => text_line(letter, b" no", &[u64::from(number)]),
+            } => write_line(part, letter, b" no", &[u64::from(number)]),
             Line::Refused {
                 letter,
                 number,
                 cause: Some(cause),
-            } => text_line(letter, b" no", &[u64::from(number), u64::from(cause)]),
-            Line::Unread { refusal, place } => text_line(
+            } => write_line(part, letter, b" no", &[u64::from(number), u64::from(cause)]),
+            Line::Unread { refusal, place } => write_line(
+                part,
                 b'?',
                 b"",
                 &[u64::from(refusal.number()), place as u64],
@@ -80,29 +69,27 @@ impl Line {
 }
 
 // The letter, `ok`, and the numbers of the answer.
-fn granted(letter: u8, answer: Numbers) -> ArrayVec<u8, LONGEST_LINE>
-    ensures { result.items ≡ line letter (codes " ok") (numbers_in answer) }
+fn write_answer(part: &mut [u8], letter: u8, answer: Numbers) -> usize
+    requires { length (line letter (codes " ok") (numbers_in answer)) ≤ length part.old }
+    ensures after { part.new ≡ laid 0 (line letter (codes " ok") (numbers_in answer)) part.old }
+    ensures value { result ≡ length (line letter (codes " ok") (numbers_in answer)) }
 {
     match answer {
-        Numbers::Empty => text_line(letter, b" ok", &[]),
-        Numbers::One(a) => text_line(letter, b" ok", &[a]),
-        Numbers::Two(a, b) => text_line(letter, b" ok", &[a, b]),
-        Numbers::Three(a, b, c) => text_line(letter, b" ok", &[a, b, c]),
+        Numbers::Empty => write_line(part, letter, b" ok", &[]),
+        Numbers::One(a) => write_line(part, letter, b" ok", &[a]),
+        Numbers::Two(a, b) => write_line(part, letter, b" ok", &[a, b]),
+        Numbers::Three(a, b, c) => write_line(part, letter, b" ok", &[a, b, c]),
     }
 }
 
 // The letter, a word and the numbers, each after one space, and a line feed.
-fn text_line(letter: u8, word: &[u8], numbers: &[u64]) -> ArrayVec<u8, LONGEST_LINE>
-    requires short { length word.now ≤ 3 }
-    requires few { length numbers.now ≤ 3 }
-    ensures { result.items ≡ line letter word.now numbers.now }
+fn write_line(part: &mut [u8], letter: u8, word: &[u8], numbers: &[u64]) -> usize
+    requires { length (line letter word.now numbers.now) ≤ length part.old }
+    ensures after { part.new ≡ laid 0 (line letter word.now numbers.now) part.old }
+    ensures value { result ≡ length (line letter word.now numbers.now) }
 {
-    let mut text = ArrayVec::new();
-    append(&mut text, &[letter]);
-    append(&mut text, word);
-    for number in numbers {
-        append_number(&mut text, *number);
-    }
-    append(&mut text, b"\n");
-    text
+    let at = put_text(part, 0, &[letter]);
+    let at = put_text(part, at, word);
+    let at = put_numbers(part, at, numbers);
+    put_text(part, at, b"\n")
 }

@@ -88,6 +88,9 @@ module _ (a : ℕ) (mw : List ℕ) (first hours : ℕ) (rights : List Hour) wher
   pub awarded_at : (b h : ℕ) → mw_at b h (awarded a mw first hours rights) ≤ mw_at b h rights + mw_of mw
   awarded_at b h = over_up (λ hour. mw_of (row_at b hour)) (with_row a mw) (λ _. true) (mw_of mw) (λ hour k. row_up a mw hour (mw_of mw) (omega arith) b) first hours rights no_hour h (all_any (part first hours rights))
 
+  pub awarded_out : (b h : ℕ) → (h < first) ⊎ (first + hours ≤ h) → mw_at b h (awarded a mw first hours rights) ≡ mw_at b h rights
+  awarded_out b h o = ap (λ hour. mw_of (row_at b hour)) (over_out (with_row a mw) first hours rights no_hour h o)
+
   pub awarded_others : (b h : ℕ) → b ≢ a → mw_at b h (awarded a mw first hours rights) ≤ mw_at b h rights
   awarded_others b h ne =
       let same : (hour : Hour) → mw_of (row_at b (with_row a mw hour)) ≡ mw_of (row_at b hour) = λ hour. ap mw_of (get_or-set_other hour.rows a b mw [] ne) in

@@ -14,7 +14,7 @@ pub use awards::hold_awarded;
 pub use cancels::give_back;
 pub use cuts::{CUT_HOURS, LIMIT_BYTES, curtail, cut_hour, worked_by_hand};
 pub use hours::Hour;
-pub use numbering::{AUCTIONS, HOURS, PARTICIPANTS};
+pub use numbering::{AUCTIONS, AuctionNumber, HOURS, PARTICIPANTS, Participant, Span};
 pub use returns::{return_out, waits};
 pub use transfers::{holds_through, transfer};
 

@@ -6,7 +6,9 @@ ghost use Rattle.rights.specs.Holdings.{holds_through, fewer, more, transferred}
 use super::hours::Hour;
 use numbering::{AuctionNumber, HOURS, PARTICIPANTS, Participant, Span};
 
-// Whether the participant holds as many MW of the auction in each hour.
+// Whether the participant holds as many MW of the auction in each hour. (Never inlined: within a call of the book its
+// loop over the hours came out twice as long.)
+#[inline(never)]
 pub fn holds_through(
     rights: &[Hour; HOURS],
     auction: AuctionNumber,

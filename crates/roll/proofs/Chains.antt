@@ -58,6 +58,14 @@ module _ {F B : Type 0} (g : Mut F (ℕ × Unit {0}) B) (h : ℕ → B) (f : F) 
       let long = m.long in
       ext_get_or e ys (map h (range_with_len 0 n)) (omega arith) (λ j l. made_from n 0 f refl m.each j e (omega arith) (omega arith) ∙ sym (get_or-map-range_with_len h 0 n j j e (omega arith) (omega arith)))
 
+-- a list by its places
+pub by_places : {X B : Type 0} (f : X → B) (xs : List X) (n : ℕ) (d : X) → length xs ≡ n → map (λ i. f (get_or xs i d)) (range_with_len 0 n) ≡ map f xs
+by_places f xs n d long =
+    let size = length-map (range_with_len 0 n) (λ i. f (get_or xs i d)) in
+    let span = length-range_with_len 0 n in
+    let all = length-map xs f in
+    ext_get_or (f d) (map (λ i. f (get_or xs i d)) (range_with_len 0 n)) (map f xs) (omega arith) (λ i l. get_or-map-range_with_len (λ i. f (get_or xs i d)) 0 n i i (f d) (omega arith) (omega arith) ∙ sym (get_or-map f xs i d))
+
 -- `fold` that takes each off, down to 0
 pub less_each : {X : Type 0} (f : X → ℕ) (xs : List X) (n : ℕ) → fold (λ a x. a - f x) n xs ≡ n - sum_of f xs
 less_each f [] n = omega arith

@@ -30,7 +30,7 @@ fn run(rt: &HostRuntime) -> anyhow::Result<()> {
             }
             [b'!', bytes @ ..] => story.extend_from_slice(bytes)?,
             text => match encode_line(text) {
-                Ok(command) => story.extend_from_slice(&command)?,
+                Ok(command) => story.extend_from_slice(command.as_slice())?,
                 Err(_) => return Err(anyhow!("a line that is no command")),
             },
         }

@@ -1,5 +1,5 @@
 -- A letter and its operands behind one another are the bytes of the line, and these are read as one command.
-use Rattle.std.proofs.Common.{map, sym, ◌∙◌, subst, arith, rules}
+use Rattle.std.proofs.Common.{Ok, length, map, sym, ap, ◌∙◌, subst, arith, rules}
 use Rattle.command.specs.Letters.{byte_of}
 use Rattle.command.specs.Table.{total}
 use Rattle.command_text.specs.Lines.{OneCommand, bytes_in}
@@ -14,8 +14,9 @@ pub returns-in-Ok-operands : goal.returns-in-Ok-operands
 returns-in-Ok-operands c =
     let said = line_said c.args.text.now c.skip_blanks.result.now _ _ (omega arith) c.skip_blanks.ensures c.if-first-eq35.false c.in-Ok.ensures c.widths.ensures.value in
     let some = line_some (byte_of c.in-Ok.letter) c.append.new.bytes.items c.operands.new.out.items _ (total (map bytes_in c.widths.result.now)) (search rules) (length_operands _ _) c.in-Ok-operands.ensures in
-    let same = some.0 ∙ sym said in
-    record { value = same; within = omega (arith, some.1, c.widths.ensures.room); back = subst OneCommand (sym same) (one_command c.args.text.now) }
+    let list = c.deref-in-Ok-operands.ensures.0 in
+    let same = ap Ok (c.of-in-Ok-operands.ensures.value ∙ list) ∙ (some.0 ∙ sym said) in
+    record { value = same; within = omega (arith, ap length list, some.1, c.widths.ensures.room, c.of-in-Ok-operands.ensures.size); back = subst OneCommand (sym same) (one_command c.args.text.now) }
 
 pub returns-in-Err-clause-value : goal.returns-in-Err-clause-value
 returns-in-Err-clause-value c =
